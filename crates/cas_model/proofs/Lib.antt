@@ -1,0 +1,3 @@
+pub mod CanonLemmas
+pub mod ContentLemmas
+pub mod Maps

@@ -1,0 +1,36 @@
+-- The texts of ids.
+use Rattle.std.specs.Prelude.{◌≡◌, ◌≢◌, ℕ, ◌<◌, List, ◌++◌, codes, Ok, false, length, slice_index, take, drop}
+use Rattle.std.specs.List.{AllPass}
+use Rattle.hex.specs.Hex.{encode_lower, decode_of, is_hex_digit}
+use Rattle.cas_model.specs.declared.digest.Digest.{Digest}
+use Rattle.cas_model.specs.declared.id.IdError.{IdError}
+use Rattle.cas_model.specs.declared.id.IdError.TheVariants.{BadPrefix, BadLength, BadDigit}
+
+abbrev pub id_prefix : List ℕ
+id_prefix = codes "llvmcas://"
+
+-- the prefix and 64 lower-case hexadecimal digits
+abbrev pub id_text : Digest → List ℕ
+id_text digest = id_prefix ++ encode_lower digest.bytes
+
+-- the text begins with the prefix
+pub record HasPrefix (text : List ℕ) : Type 0 where
+  pub is : take 10 text ≡ id_prefix
+
+-- what stands after the prefix
+abbrev pub digits_of : List ℕ → List ℕ
+digits_of text = drop 10 text
+
+-- the text is the prefix and 64 digits, in either case, of this digest
+pub record IsIdOf (digest : Digest) (text : List ℕ) : Type 0 where
+  pub begins : HasPrefix text
+  pub long : length (digits_of text) ≡ 64
+  pub digits : decode_of (digits_of text) ≡ Ok digest.bytes
+
+-- the text is no id, for this reason: no two of them hold of one text
+abbrev pub IsRefused : IdError → List ℕ → Type 0
+IsRefused BadPrefix text = ¬ HasPrefix text
+IsRefused BadLength text = HasPrefix text × (length (digits_of text) ≢ 64)
+IsRefused (BadDigit k) text =
+    HasPrefix text × (length (digits_of text) ≡ 64) × (k < 64)
+    × (is_hex_digit (slice_index (digits_of text) k) ≡ false) × AllPass is_hex_digit (take k (digits_of text))

@@ -1,0 +1,10 @@
+pub mod Object
+pub mod Id
+pub mod Content
+pub mod State
+pub mod Step
+pub mod Tables
+pub mod Primary
+pub mod Start
+pub mod Trie
+pub mod Contents

@@ -1,0 +1,56 @@
+// The text of an id.
+ghost use Rattle.std.specs.Prelude.{◌≡◌, IfOk, MatchResult};
+ghost use Rattle.cas_model.specs.Id.{id_text, IsIdOf, IsRefused};
+
+use crate::Digest;
+use std::alloc::{AllocError, Global};
+
+/// What an id's text begins with.
+const PREFIX: &[u8] = b"llvmcas://";
+
+/// A digest as it is written: `llvmcas://` and 64 hexadecimal digits, 74 bytes in all. The prefix is this
+/// project's own.
+#[derive(Clone, Copy, Debug, PartialEq, Eq)]
+pub struct Id {
+    pub digest: Digest,
+}
+
+/// Why a text is no id. The first of these that applies is answered.
+#[derive(Clone, Copy, Debug, PartialEq, Eq)]
+pub enum IdError {
+    /// The text does not begin with `llvmcas://`.
+    BadPrefix,
+    /// The rest is not 64 bytes long.
+    BadLength,
+    /// The byte at this index of the rest, counted from 0, is the first that is no hexadecimal digit.
+    BadDigit(u32),
+}
+
+impl Id {
+    /// The digest that a text is the id of. Upper-case digits are accepted too.
+    pub fn parse(text: &[u8]) -> Result<Digest, IdError>
+        ensures { MatchResult result (λ digest. IsIdOf digest text.now) (λ error. IsRefused error text.now) }
+    {
+        let Some(digits) = text.strip_prefix(PREFIX) else {
+            return Err(IdError::BadPrefix);
+        };
+        let mut bytes = [0; 32];
+        match hex::decode_to_slice(digits, &mut bytes) {
+            Ok(()) => Ok(Digest { bytes }),
+            Err(hex::FromHexError::InvalidHexCharacter { c: _, index }) => {
+                Err(IdError::BadDigit(index as u32))
+            }
+            Err(_) => Err(IdError::BadLength),
+        }
+    }
+
+    /// The id's text, with lower-case digits.
+    pub fn text(&self, alloc: Global) -> Result<Vec<u8>, AllocError>
+        ensures { IfOk result (λ text. text.items ≡ id_text self.now.digest) }
+    {
+        let mut text = PREFIX.to_vec(alloc)?;
+        let digits = hex::encode(alloc, self.digest.bytes.as_slice())?;
+        text.extend_from_slice(digits.as_bytes())?;
+        Ok(text)
+    }
+}
