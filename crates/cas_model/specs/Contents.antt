@@ -51,5 +51,5 @@ ArePuttable digests known (p ∷ ps) = Member p.value digests × (Member p.key k
 
 -- contents that can be stored in their order
 pub record AreLawfulContents (objects : List Object) (actions : List Pair) : Type 0 where
-  pub objects : AreStorable [] objects
-  pub actions : ArePuttable (object_digests objects) [] actions
+  pub storable : AreStorable [] objects
+  pub puttable : ArePuttable (object_digests objects) [] actions
