@@ -1,3 +1,4 @@
 pub mod CanonLemmas
 pub mod ContentLemmas
 pub mod Maps
+pub mod IdLemmas

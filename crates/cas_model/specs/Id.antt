@@ -2,6 +2,8 @@
 use Rattle.std.specs.Prelude.{◌≡◌, ◌≢◌, ℕ, ◌<◌, List, ◌++◌, codes, Ok, false, length, slice_index, take, drop}
 use Rattle.std.specs.List.{AllPass}
 use Rattle.hex.specs.Hex.{encode_lower, decode_of, is_hex_digit}
+use Rattle.hex.specs.declared.error.FromHexError.{FromHexError}
+use Rattle.hex.specs.declared.error.FromHexError.TheVariants.{InvalidHexCharacter, OddLength, InvalidStringLength, OutOfMemory}
 use Rattle.cas_model.specs.declared.digest.Digest.{Digest}
 use Rattle.cas_model.specs.declared.id.IdError.{IdError}
 use Rattle.cas_model.specs.declared.id.IdError.TheVariants.{BadPrefix, BadLength, BadDigit}
@@ -34,3 +36,17 @@ IsRefused BadLength text = HasPrefix text × (length (digits_of text) ≢ 64)
 IsRefused (BadDigit k) text =
     HasPrefix text × (length (digits_of text) ≡ 64) × (k < 64)
     × (is_hex_digit (slice_index (digits_of text) k) ≡ false) × AllPass is_hex_digit (take k (digits_of text))
+
+-- the index of the digit that the decoder of hexadecimal text refused, 0 for its other errors
+abbrev pub digit_index : FromHexError → ℕ
+digit_index (InvalidHexCharacter c k) = k
+digit_index OddLength = 0
+digit_index InvalidStringLength = 0
+digit_index OutOfMemory = 0
+
+-- the decoder's error as that of an id
+abbrev pub refusal_of : FromHexError → IdError
+refusal_of (InvalidHexCharacter c k) = BadDigit k
+refusal_of OddLength = BadLength
+refusal_of InvalidStringLength = BadLength
+refusal_of OutOfMemory = BadLength

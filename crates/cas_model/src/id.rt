@@ -1,8 +1,9 @@
 // The text of an id.
-ghost use Rattle.std.specs.Prelude.{◌≡◌, IfOk, MatchResult};
-ghost use Rattle.cas_model.specs.Id.{id_text, IsIdOf, IsRefused};
+ghost use Rattle.std.specs.Prelude.{◌≡◌, ◌<◌, ◌^◌, IfOk, MatchResult};
+ghost use Rattle.cas_model.specs.Id.{id_text, digit_index, refusal_of, IsIdOf, IsRefused};
 
 use crate::Digest;
+use hex::FromHexError;
 use std::alloc::{AllocError, Global};
 
 /// What an id's text begins with.
@@ -37,10 +38,7 @@ impl Id {
         let mut bytes = [0; 32];
         match hex::decode_to_slice(digits, &mut bytes) {
             Ok(()) => Ok(Digest { bytes }),
-            Err(hex::FromHexError::InvalidHexCharacter { c: _, index }) => {
-                Err(IdError::BadDigit(index as u32))
-            }
-            Err(_) => Err(IdError::BadLength),
+            Err(error) => Err(refusal(error)),
         }
     }
 
@@ -52,5 +50,18 @@ impl Id {
         let digits = hex::encode(alloc, self.digest.bytes.as_slice())?;
         text.extend_from_slice(digits.as_bytes())?;
         Ok(text)
+    }
+}
+
+// Why 64 digits are none, or that there are not so many.
+fn refusal(error: FromHexError) -> IdError
+    requires { digit_index error < 2 ^ 32 }
+    ensures { result ≡ refusal_of error }
+{
+    match error {
+        FromHexError::InvalidHexCharacter { c: _, index } => IdError::BadDigit(index as u32),
+        FromHexError::OddLength | FromHexError::InvalidStringLength | FromHexError::OutOfMemory => {
+            IdError::BadLength
+        }
     }
 }

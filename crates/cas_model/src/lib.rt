@@ -11,6 +11,8 @@ mod note;
 mod object;
 mod place;
 mod tables;
+#[cfg(test)]
+mod tests;
 mod upstream;
 
 pub use call::{Call, Reply, Who};
