@@ -1,0 +1,10 @@
+pub mod Run
+pub mod Answers
+pub mod Carried
+pub mod Lawful
+pub mod Grows
+pub mod History
+pub mod Conduct
+pub mod Cost
+pub mod Script
+pub mod End
