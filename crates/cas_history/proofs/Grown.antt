@@ -138,6 +138,16 @@ pub room-grows : (moved : Bool) (a n : ℕ) → a ≤ cond moved (a + n) a
 room-grows true a n = omega arith
 room-grows false a n = omega arith
 
+-- a bind and a fill leave the counter
+pub bound-counter : (s : Tables) (space : Space) (digest : Digest) (found own : Option Place) → (bound_by s space digest found own).counter ≡ s.counter
+bound-counter s space digest (Some p) own = refl
+bound-counter s space digest None None = refl
+bound-counter s space digest None (Some own) = refl
+
+pub filled-counter : (s : Tables) (had : ℕ) (cell : Place) (value : ℕ) (words : List ℕ) → (filled_by s had cell value words).counter ≡ s.counter
+filled-counter s (suc had) cell value words = refl
+filled-counter s zero cell value words = refl
+
 -- an event that may happen leaves what is bound, filled and published
 pub grows-act : (up : State) (s : Tables) (who : Who) (act : Act) → MayHappen up s who act → Grows s (after_act s who act)
 grows-act up s who (Look space digest) may = grows-self s

@@ -12,3 +12,4 @@ pub mod Legal
 pub mod Promised
 pub mod Others
 pub mod Indexes
+pub mod Changed

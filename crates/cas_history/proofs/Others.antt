@@ -26,11 +26,11 @@ use Rattle.cas_model.specs.Tables.{Tables, place_of, cell_of}
 use Rattle.cas_history.specs.Run.{tables, after_act, bound_by, filled_by}
 use Rattle.cas_history.specs.Lawful.{IsLawfulRun}
 use Rattle.cas_model.specs.Primary.{object_in, object_under}
-use Rattle.cas_history.specs.History.{history, decided, with_entry, with_event, count_of, read_by, is_absent, loaded}
+use Rattle.cas_history.specs.History.{history, decided, with_entry, with_event, count_of, of_session, events_of, read_by, is_absent, loaded}
 use Rattle.cas_history.specs.Conduct.{MayMake, HasConduct, CallOpen, MayAct, MayLoad, IsAbout}
 use Rattle.cas_history.specs.Cost.{asked_by, asked_by_all}
 use Rattle.cas_history.specs.Laws.{AreOfOtherSessions}
-use Rattle.cas_history.proofs.Grown.{size-same}
+use Rattle.cas_history.proofs.Grown.{size-same, bound-counter, filled-counter}
 use Rattle.cas_model.proofs.Maps.{get-object}
 use Rattle.cas_history.proofs.Promised.{where-is}
 use Rattle.cas_history.proofs.Sound.{sound-run}
@@ -38,15 +38,6 @@ use Rattle.cas_history.proofs.Under.{storable}
 use Rattle.cas_history.proofs.Visible.{read-shows}
 
 -- ---- the counter is at most what was asked
-
-bound-counter : (s : Tables) (space : Space) (digest : Digest) (found own : Option Place) → (bound_by s space digest found own).counter ≡ s.counter
-bound-counter s space digest (Some p) own = refl
-bound-counter s space digest None None = refl
-bound-counter s space digest None (Some own) = refl
-
-fill-counter : (s : Tables) (had : ℕ) (cell : Place) (value : ℕ) (words : List ℕ) → (filled_by s had cell value words).counter ≡ s.counter
-fill-counter s (suc had) cell value words = refl
-fill-counter s zero cell value words = refl
 
 moved-most : (moved : Bool) (a n : ℕ) → cond moved (a + n) a ≤ a + n
 moved-most true a n = omega arith
@@ -58,7 +49,7 @@ act-counter s who (Bind space digest own) = let e = bound-counter s space digest
 act-counter s who (Read cell) = omega arith
 act-counter s who (Claim n) = omega arith
 act-counter s who (Room n moved) = moved-most moved s.counter n
-act-counter s who (Fill cell value words) = let e = fill-counter s (cell_of s.filled cell.at) cell value words in omega (arith, e)
+act-counter s who (Fill cell value words) = let e = filled-counter s (cell_of s.filled cell.at) cell value words in omega (arith, e)
 
 pub counter-asked : (start : Tables) (seen : List Event) → (tables start seen).counter ≤ start.counter + asked_by_all seen
 counter-asked start [] = omega arith
@@ -122,15 +113,49 @@ event-count : (up : State) (s : Tables) (session : ℕ) (call : Option Call) (e 
 event-count up s session None e earlier other = refl
 event-count up s session (Some call) e earlier other = other-count session e.note.who call (decided up s call e.note.stage e.act) earlier other
 
+pub others-conduct : (up : State) (start : Tables) (calls : Who → Option Call) (session : ℕ) (more seen : List Event) → AreOfOtherSessions session more
+    → HasConduct up start calls session seen → HasConduct up start calls session (more ++ seen)
+others-conduct up start calls session [] seen others conduct = conduct
+others-conduct up start calls session (e ∷ es) seen others conduct = (others-conduct up start calls session es seen others.1 conduct, λ same. absurd (others.0 same))
+
+others-count : (up : State) (start : Tables) (calls : Who → Option Call) (session : ℕ) (more seen : List Event) → AreOfOtherSessions session more
+    → count_of session (history up start calls (more ++ seen)) ≡ count_of session (history up start calls seen)
+others-count up start calls session [] seen others = refl
+others-count up start calls session (e ∷ es) seen others =
+    event-count up (tables start (es ++ seen)) session (calls e.note.who) e (history up start calls (es ++ seen)) others.0 ∙ others-count up start calls session es seen others.1
+
 pub others-leave : (up : State) (start : Tables) (calls : Who → Option Call) (who : Who) (more seen : List Event) → AreOfOtherSessions who.session more
     → CallOpen up start calls who seen → CallOpen up start calls who (more ++ seen)
-others-leave up start calls who [] seen others open_ = open_
-others-leave up start calls who (e ∷ es) seen others open_ =
-    let below = others-leave up start calls who es seen others.1 open_ in
-    record {
-      conduct = (below.conduct, λ same. absurd (others.0 same));
-      next = below.next ∙ sym (event-count up (tables start (es ++ seen)) who.session (calls e.note.who) e (history up start calls (es ++ seen)) others.0);
-    }
+others-leave up start calls who more seen others open_ = record {
+  conduct = others-conduct up start calls who.session more seen others open_.conduct;
+  next = open_.next ∙ sym (others-count up start calls who.session more seen others);
+}
+
+-- a test of another session fails
+other-branch : {X : Type 0} (a b : ℕ) (x y : X) → a ≢ b → cond (a == b) x y ≡ y
+other-branch {X} a b x y other = step (a == b) refl where
+  step : (t : Bool) → (a == b) ≡ t → cond t x y ≡ y
+  step true test = absurd (other (eqb-true a b test))
+  step false test = refl
+
+other-entries : (up : State) (s : Tables) (session : ℕ) (call : Option Call) (e : Event) (earlier : List Entry) → e.note.who.session ≢ session
+    → of_session session (with_event up s call e earlier) ≡ of_session session earlier
+other-entries up s session None e earlier other = refl
+other-entries up s session (Some call) e earlier other = step (decided up s call e.note.stage e.act) where
+  step : (reply : Option Reply) → of_session session (with_entry e.note.who call reply earlier) ≡ of_session session earlier
+  step None = refl
+  step (Some reply) = other-branch e.note.who.session session (record { who = e.note.who; call = call; reply = reply } ∷ of_session session earlier) (of_session session earlier) other
+
+pub others-events : (session : ℕ) (more seen : List Event) → AreOfOtherSessions session more → events_of session (more ++ seen) ≡ events_of session seen
+others-events session [] seen others = refl
+others-events session (e ∷ es) seen others =
+    other-branch e.note.who.session session (e ∷ events_of session (es ++ seen)) (events_of session (es ++ seen)) others.0 ∙ others-events session es seen others.1
+
+pub others-entries : (up : State) (start : Tables) (calls : Who → Option Call) (session : ℕ) (more seen : List Event) → AreOfOtherSessions session more
+    → of_session session (history up start calls (more ++ seen)) ≡ of_session session (history up start calls seen)
+others-entries up start calls session [] seen others = refl
+others-entries up start calls session (e ∷ es) seen others =
+    other-entries up (tables start (es ++ seen)) session (calls e.note.who) e (history up start calls (es ++ seen)) others.0 ∙ others-entries up start calls session es seen others.1
 
 -- ---- the call's own events
 

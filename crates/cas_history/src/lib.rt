@@ -2,5 +2,13 @@
 #![tactic(auto)]
 
 mod event;
+mod laws;
+mod theorem;
 
 pub use event::{Act, Answer, Event};
+pub use laws::{
+    blocks_fit, ends_are_starts, events_change_their_kind, runs_grow, sessions_stay_apart,
+};
+pub use theorem::{
+    calls_go_in_order, history_is_legal, primary_is_closed, promises_are_whole,
+};
