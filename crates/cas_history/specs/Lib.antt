@@ -11,3 +11,4 @@ pub mod End
 pub mod Changes
 pub mod Laws
 pub mod Theorem
+pub mod Replays
