@@ -223,3 +223,10 @@ unfolding needed
 needed-is r space d two is =
     subst (λ (t : Deepest). (t.first - t.second ≡ new_subtries (bound_in space r.bound) d 62) × (t.second ≤ t.first) × (t.first ≤ 62)) (sym is)
     (difference 62 d (bound_in space r.bound) (deepest_in (record { first = 0; second = 0 }) space d r.bound) (counted-rows space d r.bound))
+
+pub needed-most : (r : PlainRows) (space : Space) (d : Digest) → needed r space d ≤ 62
+needed-most r space d =
+    let h = needed-is r space d (deepest_in (record { first = 0; second = 0 }) space d r.bound) refl in
+    let e = h.0 in
+    let most = h.2 in
+    omega arith
