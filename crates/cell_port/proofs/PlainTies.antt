@@ -23,7 +23,7 @@ use Rattle.cas_history.proofs.Sound.{sound-run, content-some}
 use Rattle.cell_port.specs.declared.block.OpenBlock.{OpenBlock}
 use Rattle.cell_port.specs.Blank.{none_written}
 use Rattle.cell_port.specs.declared.block.Block.{Block}
-use Rattle.cell_port.specs.Calls.{event_of, IsWholeFill}
+use Rattle.cell_port.specs.Calls.{event_of, IsWholeFill, WordIs, digest_word}
 use Rattle.cell_port.specs.PlainView.{plain_view}
 use Rattle.cell_port.specs.View.{open_words, write_word, close_block, IsOpenFor, written_words}
 use Rattle.cell_port.specs.Tables.{PlainRows}
@@ -320,3 +320,15 @@ module _ (up : State) (r : PlainRows) (opened : List OpenBlock) (seen : List Eve
       tied-fill block.place.at block.length words whole.found whole.opened
       (ap length is ∙ length-written (open_words opened block.place.at) ∙ open-length opened note.who block.place.at block.length whole.opened) whole.bound whole.object
       (subst (λ (ws : List ℕ). IsObjectRule up (tables r.start seen) whole.found.digest block.place.at ws) (sym is) whole.lawful)
+
+-- ---- words
+
+-- a record's digest words are read from its row
+pub word-of-record : (up : State) (r : PlainRows) (opened : List OpenBlock) (seen : List Event) → Tied up r opened seen → (place : Place) (i w : ℕ) (found : Record)
+    → record_at r.bound place.at ≡ Some found → w ≡ digest_word found.digest i → WordIs (plain_view up r.start seen opened) place i w
+word-of-record up r opened seen t place i w found at is =
+    let there : record_at (tables r.start seen).bound place.at ≡ Some found = ap (λ (rs : List Record). record_at rs place.at) t.ties.bound_is ∙ at in
+    record {
+      of_record = λ x x_at lt. let e : Some found ≡ Some x = sym there ∙ x_at in let same : found ≡ x = cc in is ∙ ap (λ (y : Record). digest_word y.digest i) same;
+      of_content = λ words words_at lt. let none = (placed-run up r.start seen t.lawful).one_kind place.at (ap is_some there) in absurd (cc (none, words_at));
+    }
