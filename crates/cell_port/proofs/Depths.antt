@@ -11,7 +11,6 @@ use Rattle.cas_model.specs.Trie.{index_of, nibble, path, sharing, new_subtries}
 use Rattle.cell_port.specs.declared.subtries.Deepest.{Deepest}
 use Rattle.cell_port.specs.Depth.{shares, shared, shared_level, with_level, deepest_of, deepest_in}
 use Rattle.cell_port.specs.Needed.{bound_in, needed}
-use Rattle.cell_port.specs.Tables.{PlainRows}
 
 index-next : (bytes : List ℕ) (level n : ℕ) → 0 < level → n ≡ level + 1 → index_of bytes level ≡ nibble bytes n
 unfolding index_of
@@ -217,16 +216,16 @@ deepest-append so_far space d (x ∷ xs) ys =
     ap (λ (two : Deepest). cond (same_space x.space space) (with_level (shared_level x.digest d) two) two) (deepest-append so_far space d xs ys)
 
 -- the two deepest levels that a digest shares with those bound in its space tell how many subtries it needs
-pub needed-is : (r : PlainRows) (space : Space) (d : Digest) (two : Deepest) → two ≡ deepest_in (record { first = 0; second = 0 }) space d r.bound
-    → (two.first - two.second ≡ needed r space d) × (two.second ≤ two.first) × (two.first ≤ 62)
+pub needed-is : (bound : List Record) (space : Space) (d : Digest) (two : Deepest) → two ≡ deepest_in (record { first = 0; second = 0 }) space d bound
+    → (two.first - two.second ≡ needed bound space d) × (two.second ≤ two.first) × (two.first ≤ 62)
 unfolding needed
-needed-is r space d two is =
-    subst (λ (t : Deepest). (t.first - t.second ≡ new_subtries (bound_in space r.bound) d 62) × (t.second ≤ t.first) × (t.first ≤ 62)) (sym is)
-    (difference 62 d (bound_in space r.bound) (deepest_in (record { first = 0; second = 0 }) space d r.bound) (counted-rows space d r.bound))
+needed-is bound space d two is =
+    subst (λ (t : Deepest). (t.first - t.second ≡ new_subtries (bound_in space bound) d 62) × (t.second ≤ t.first) × (t.first ≤ 62)) (sym is)
+    (difference 62 d (bound_in space bound) (deepest_in (record { first = 0; second = 0 }) space d bound) (counted-rows space d bound))
 
-pub needed-most : (r : PlainRows) (space : Space) (d : Digest) → needed r space d ≤ 62
-needed-most r space d =
-    let h = needed-is r space d (deepest_in (record { first = 0; second = 0 }) space d r.bound) refl in
+pub needed-most : (bound : List Record) (space : Space) (d : Digest) → needed bound space d ≤ 62
+needed-most bound space d =
+    let h = needed-is bound space d (deepest_in (record { first = 0; second = 0 }) space d bound) refl in
     let e = h.0 in
     let most = h.2 in
     omega arith

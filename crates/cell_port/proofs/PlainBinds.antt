@@ -41,31 +41,31 @@ claims-within speaks note (suc k) most le = inr (16, refl, inr refl, omega arith
 module _ (up : State) (r : PlainRows) (opened : List OpenBlock) (seen : List Event) (t : Tied up r opened seen) (note : Note) (space : Space) (digest : Digest) where
   module _ (unbound : place_of r.bound space digest ≡ None) (new : PlainRows) (after : List Event) (place : Place) (binds : BindsNew note space digest r new seen after place) where
     n : ℕ
-    n = needed r space digest
+    n = needed r.bound space digest
 
     pub tied-new : Tied up new opened after
     tied-new =
         subst (λ (x : PlainRows). Tied up x opened after) (sym binds.rows)
         (subst (λ (es : List Event). Tied up (record r {
-          counter = r.counter + (5 + 16 * needed r space digest);
+          counter = r.counter + (5 + 16 * needed r.bound space digest);
           bound = (record { space = space; digest = digest; place = record { at = r.counter } }) ∷ r.bound;
-        }) opened es) (sym binds.events) (tied-bind up r opened seen t note space digest (needed r space digest) unbound binds.fits))
+        }) opened es) (sym binds.events) (tied-bind up r opened seen t note space digest (needed r.bound space digest) unbound binds.fits))
 
-    there : place_of (tables r.start (event_of note (Bind space digest (Some (record { at = r.counter }))) ∷ bind_claims note (needed r space digest) seen)).bound space digest ≡ Some (record { at = r.counter })
+    there : place_of (tables r.start (event_of note (Bind space digest (Some (record { at = r.counter }))) ∷ bind_claims note (needed r.bound space digest) seen)).bound space digest ≡ Some (record { at = r.counter })
     there =
-        ap (λ (s : Tables). place_of s.bound space digest) (bound-now up r opened seen t note space digest (needed r space digest) unbound binds.fits)
-        ∙ ap (λ b. cond b (Some (record { at = r.counter })) (place_of (tables r.start (bind_claims note (needed r space digest) seen)).bound space digest))
-        (for-self (row up r opened seen t note space digest (needed r space digest) unbound binds.fits))
+        ap (λ (s : Tables). place_of s.bound space digest) (bound-now up r opened seen t note space digest (needed r.bound space digest) unbound binds.fits)
+        ∙ ap (λ b. cond b (Some (record { at = r.counter })) (place_of (tables r.start (bind_claims note (needed r.bound space digest) seen)).bound space digest))
+        (for-self (row up r opened seen t note space digest (needed r.bound space digest) unbound binds.fits))
 
     pub bound-new : BoundTo note space digest (plain_view up r.start seen opened) (plain_view up new.start after opened) (record { place = place; level = 0 })
     bound-new =
-        let most = needed-most r space digest in
+        let most = needed-most r.bound space digest in
         let start : new.start ≡ r.start = ap (λ (x : PlainRows). x.start) binds.rows in
         record {
           own = Some (record { at = r.counter });
-          before = bind_claims note (needed r space digest) [];
-          claims = claims-within (λ _. true) note (needed r space digest) 997 (omega (arith, most));
-          is = (λ i. plain_view up (start i) (binds.events i) opened) ∙ ap (λ (es : List Event). plain_view up r.start (event_of note (Bind space digest (Some (record { at = r.counter }))) ∷ es) opened) (bind-append note (needed r space digest) seen);
+          before = bind_claims note (needed r.bound space digest) [];
+          claims = claims-within (λ _. true) note (needed r.bound space digest) 997 (omega (arith, most));
+          is = (λ i. plain_view up (start i) (binds.events i) opened) ∙ ap (λ (es : List Event). plain_view up r.start (event_of note (Bind space digest (Some (record { at = r.counter }))) ∷ es) opened) (bind-append note (needed r.bound space digest) seen);
           answer = (λ i. place_of (tables (start i) (binds.events i)).bound space digest) ∙ there ∙ ap (λ (p : Place). Some p) (sym binds.at);
           level = omega arith;
         }

@@ -1,5 +1,5 @@
 -- A plain port: what it keeps goes with the run that it has seen.
-use Rattle.std.specs.Prelude.{◌≡◌, ℕ, zero, suc, ◌+◌, ◌-◌, ◌*◌, ◌/◌, ◌<◌, ◌≤◌, List, [], ◌∷◌, ◌⊎◌, false, Some, None, length}
+use Rattle.std.specs.Prelude.{◌≡◌, ℕ, zero, suc, ◌+◌, ◌-◌, ◌*◌, ◌/◌, ◌<◌, ◌≤◌, List, [], ◌∷◌, ◌⊎◌, cond, nat_lt, false, Some, None, length}
 use Rattle.std.specs.declared.option.Option.{Option}
 use Rattle.cas_model.specs.declared.digest.Digest.{Digest}
 use Rattle.cas_model.specs.declared.note.Note.{Note}
@@ -49,13 +49,13 @@ bind_claims note n seen = claims_on note n (event_of note (Claim 5) ∷ seen)
 
 -- the digest is bound at the counter, after its claims
 pub record BindsNew (note : Note) (space : Space) (digest : Digest) (r new : PlainRows) (seen after : List Event) (place : Place) : Type 0 where
-  pub fits : r.counter + (5 + 16 * needed r space digest) ≤ r.start.size
+  pub fits : r.counter + (5 + 16 * needed r.bound space digest) ≤ r.start.size
   pub at : place ≡ record { at = r.counter }
   pub rows : new ≡ record r {
-    counter = r.counter + (5 + 16 * needed r space digest);
+    counter = r.counter + (5 + 16 * needed r.bound space digest);
     bound = (record { space = space; digest = digest; place = record { at = r.counter } }) ∷ r.bound;
   }
-  pub events : after ≡ event_of note (Bind space digest (Some (record { at = r.counter }))) ∷ bind_claims note (needed r space digest) seen
+  pub events : after ≡ event_of note (Bind space digest (Some (record { at = r.counter }))) ∷ bind_claims note (needed r.bound space digest) seen
 
 -- how many subtries are claimed before one is refused, where the record's claim is not
 abbrev pub granted : PlainRows → ℕ
@@ -77,6 +77,23 @@ BindStays note n r new seen after (Full full) = (r.start.size < r.counter + (5 +
 abbrev pub rows_filled : ℕ → PlainRows → Place → ℕ → List ℕ → PlainRows
 rows_filled (suc _) r cell value words = r
 rows_filled zero r cell value words = record r { filled = (record { of = cell; value = value }) ∷ r.filled; blocks = published value words r.blocks }
+
+-- what a plain port sees in a bind, from these tables: a bound digest needs no record, and an unbound one its claims
+abbrev pub bind_events : Note → Space → Digest → Option Place → Tables → List Event → List Event
+bind_events note space digest (Some _) s seen = event_of note (Bind space digest None) ∷ seen
+bind_events note space digest None s seen =
+    event_of note (Bind space digest (Some (record { at = s.counter }))) ∷ bind_claims note (needed s.bound space digest) seen
+
+-- and in a bind that is refused: those of its claims that fit, and the first that does not
+abbrev pub refused_events : Note → Tables → List Event → List Event
+refused_events note s seen =
+    cond (nat_lt (s.size - s.counter) 5) (event_of note (Room 5 false) ∷ seen)
+    (event_of note (Room 16 false) ∷ bind_claims note ((s.size - s.counter - 5) / 16) seen)
+
+-- a plain port that wanted memory has seen nothing more, and one whose claim was refused has seen these events
+abbrev pub HasSeen : List Event → List Event → List Event → PortError → Type 0
+HasSeen old new refused Memory = new ≡ old
+HasSeen old new refused (Full _) = new ≡ refused
 
 -- ---- what a plain port keeps
 

@@ -14,6 +14,6 @@ mod subtries;
 mod tables;
 
 pub use block::{Block, Bound, Filled, OpenBlock, PortError, Written};
-pub use plain::PlainPort;
+pub use plain::{Events, PlainPort};
 pub use port::CellPort;
 pub use steps::Steps;

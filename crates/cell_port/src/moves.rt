@@ -24,7 +24,7 @@ pub fn bind_new(
 ) -> Result<Place, PortError>
     requires { place_of tables.old.bound space digest.now ≡ None }
     ensures ok { IfOk result (λ place. BindsNew note space digest.now tables.old tables.new events.old.items events.new.items place) }
-    ensures err { IfErr result (BindStays note (needed tables.old space digest.now) tables.old tables.new events.old.items events.new.items) }
+    ensures err { IfErr result (BindStays note (needed tables.old.bound space digest.now) tables.old tables.new events.old.items events.new.items) }
 {
     let subtries = tables.new_subtries(space, digest);
     events.reserve(64)?;

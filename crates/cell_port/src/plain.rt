@@ -1,8 +1,10 @@
 // A port of one owner over plain lists.
-ghost use Rattle.std.specs.Prelude.{◌≡◌, ◌≤◌, [], ◌∷◌, Some, None, IfOk};
+ghost use Rattle.std.specs.Prelude.{◌≡◌, ◌≤◌, ◌+◌, ◌*◌, ◌<◌, [], ◌∷◌, Some, None, false, IfOk, IfErr, OnOk, MatchResult};
 ghost use Rattle.cas_model.specs.Tables.{empty_start};
-ghost use Rattle.cell_port.specs.Plain.{upstream_of};
-ghost use Rattle.cell_port.specs.PlainView.{plain_view};
+ghost use Rattle.cas_model.specs.Tables.{place_of};
+ghost use Rattle.cell_port.specs.Calls.{IsLawful, HasClaimed, ClaimRefused, BoundTo, BindRefused, Ticks, event_of};
+ghost use Rattle.cell_port.specs.Plain.{bind_events, refused_events, HasSeen};
+ghost use Rattle.cell_port.specs.PlainView.{port_view, port_tables};
 
 use crate::digest_words::digest_word;
 use crate::moves::{bind_new, fill_cell, publish};
@@ -61,8 +63,65 @@ impl<'u> PlainPort<'u, NoUpstream> {
     }
 }
 
+impl<'u, U: Upstream> PlainPort<'u, U> {
+    /// The same port over another upstream, which it only reads. Nothing may have been seen yet.
+    pub fn under<V: Upstream>(self, up: &'u V) -> PlainPort<'u, V>
+        requires { self.seen ≡ [] }
+        ensures up { result.up ≡ Some up.now }
+        ensures start { result.start ≡ self.entry.start }
+        ensures seen { result.seen ≡ [] }
+        ensures opened { result.opened ≡ self.entry.opened }
+    {
+        let PlainPort {
+            alloc,
+            up: _,
+            tables,
+            opened,
+            events,
+        } = self;
+        PlainPort {
+            alloc,
+            up: Some(up),
+            tables,
+            opened,
+            events,
+        }
+    }
+
+    /// Gives up the port, and keeps its start and what it has seen.
+    pub fn into_events(self) -> Events
+        ensures start { result.start ≡ self.entry.start }
+        ensures seen { result.seen ≡ self.entry.seen }
+    {
+        let PlainPort {
+            alloc: _,
+            up: _,
+            tables,
+            opened: _,
+            events,
+        } = self;
+        Events { tables, events }
+    }
+}
+
+/// The start of a port and the events that it has seen, which contracts see. It borrows nothing.
+#[derive(Drop)]
+pub struct Events {
+    tables: PlainTables,
+    // The newest first.
+    events: VecDeque<Event>,
+}
+
+impl Model for Events {
+    ghost use Rattle.cell_port.specs.Plain.{EventsValue};
+
+    ghost Value = { EventsValue };
+
+    ghost view = { λ e. record { start = e.tables.start; seen = e.events.items } };
+}
+
 impl<'u, U: Upstream> CellPort for PlainPort<'u, U> {
-    ghost view = { λ p. plain_view (upstream_of U.state p.up) p.start p.seen p.opened };
+    ghost view = { λ p. port_view U.state p };
 
     fn look<L: Ledger>(
         &mut self,
@@ -82,8 +141,18 @@ impl<'u, U: Upstream> CellPort for PlainPort<'u, U> {
         note: Note,
         space: Space,
         digest: &Digest,
-        _steps: &mut Steps<L>,
-    ) -> Result<Bound, PortError> {
+        steps: &mut Steps<L>,
+    ) -> Result<Bound, PortError>
+        ensures ok { IfOk result (λ bound. BoundTo note space digest.now (port_view U.state self.old) (port_view U.state self.new) bound) }
+        ensures err { IfErr result (BindRefused note (port_view U.state self.old) (port_view U.state self.new)) }
+        ensures lawful { IsLawful (port_view U.state self.old) (port_view U.state self.new) }
+        ensures ticks { MatchResult result (λ bound. Ticks (2 * (bound.level + 1)) steps.old steps.new) (λ _. Ticks 126 steps.old steps.new) }
+
+        // Just these claims are made, and where one is refused it leaves the counter as it is.
+        ensures seen { OnOk result (self.new.seen ≡ bind_events note space digest.now (place_of (port_tables self.old).bound space digest.now) (port_tables self.old) self.old.seen) }
+        ensures refused { IfErr result (HasSeen self.old.seen self.new.seen (refused_events note (port_tables self.old) self.old.seen)) }
+    {
+        let _ = steps;
         if let Some(place) = self.tables.place_of(space, digest) {
             self.events.reserve(1)?;
             let act = Act::Bind(space, *digest, None);
@@ -101,7 +170,15 @@ impl<'u, U: Upstream> CellPort for PlainPort<'u, U> {
         Ok(value)
     }
 
-    fn claim(&mut self, note: Note, words: u64) -> Result<Block, PortError> {
+    fn claim(&mut self, note: Note, words: u64) -> Result<Block, PortError>
+        requires { 0 < words }
+        ensures ok { IfOk result (λ block. HasClaimed note words (port_view U.state self.old) (port_view U.state self.new) block) }
+        ensures err { IfErr result (ClaimRefused note words (port_view U.state self.old) (port_view U.state self.new)) }
+        ensures lawful { IsLawful (port_view U.state self.old) (port_view U.state self.new) }
+
+        // A refused claim leaves the counter as it is.
+        ensures refused { IfErr result (HasSeen self.old.seen self.new.seen (event_of note (Act.Room words false) ∷ self.old.seen)) }
+    {
         self.events.reserve(1)?;
         let at = self.tables.counter();
         let size = self.tables.size();

@@ -117,7 +117,7 @@ impl PlainTables {
 
     /// How many subtries a digest needs that the bound digests of its space do not need already.
     pub fn new_subtries(&self, space: Space, digest: &Digest) -> u64
-        ensures count { result ≡ needed self.now space digest.now }
+        ensures count { result ≡ needed self.now.bound space digest.now }
         ensures most { result ≤ 62 }
     {
         let none = Deepest {

@@ -10,10 +10,10 @@ deepest-is c =
     ∙ deepest-append (record { first = 0; second = 0 }) c.args.space c.args.digest.now c.self.inside.records.items c.self.inside.old_records.items)
 
 pub overflow_sub-result : goal.overflow_sub-result
-overflow_sub-result c = let h = needed-is c.args.self.now c.args.space c.args.digest.now _ (deepest-is c) in h.1
+overflow_sub-result c = let h = needed-is c.args.self.now.bound c.args.space c.args.digest.now _ (deepest-is c) in h.1
 
 pub returns : goal.returns
 returns c =
-    let h = needed-is c.args.self.now c.args.space c.args.digest.now _ (deepest-is c) in
+    let h = needed-is c.args.self.now.bound c.args.space c.args.digest.now _ (deepest-is c) in
     let most = h.2 in
     record { count = h.0; most = omega arith }
