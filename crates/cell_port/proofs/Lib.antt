@@ -2,5 +2,6 @@ pub mod Opened
 pub mod RowLists
 pub mod Depths
 pub mod PlainOpens
+pub mod RowsGrow
 pub mod PlainTies
 pub mod PlainBinds

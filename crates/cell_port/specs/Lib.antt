@@ -4,5 +4,6 @@ pub mod Calls
 pub mod Tables
 pub mod Needed
 pub mod Depth
+pub mod FilledRows
 pub mod Plain
 pub mod PlainView
