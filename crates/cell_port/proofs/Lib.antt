@@ -5,3 +5,5 @@ pub mod PlainOpens
 pub mod RowsGrow
 pub mod PlainTies
 pub mod PlainBinds
+pub mod ContentWords
+pub mod ClaimLists

@@ -7,3 +7,5 @@ pub mod Depth
 pub mod FilledRows
 pub mod Plain
 pub mod PlainView
+pub mod Claims
+pub mod Parts
