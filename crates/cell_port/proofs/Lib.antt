@@ -7,3 +7,4 @@ pub mod PlainTies
 pub mod PlainBinds
 pub mod ContentWords
 pub mod ClaimLists
+pub mod PartsBuilt
