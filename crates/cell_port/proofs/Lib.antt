@@ -8,3 +8,5 @@ pub mod PlainBinds
 pub mod ContentWords
 pub mod ClaimLists
 pub mod PartsBuilt
+pub mod PartsObject
+pub mod PartsAction
