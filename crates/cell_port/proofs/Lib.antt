@@ -10,3 +10,5 @@ pub mod ClaimLists
 pub mod PartsBuilt
 pub mod PartsObject
 pub mod PartsAction
+pub mod PartsLists
+pub mod PartsLoops

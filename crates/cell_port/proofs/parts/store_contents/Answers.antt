@@ -1,3 +1,2 @@
-use Rattle.cell_port.proofs.PartsObject.{object-built}
-use Rattle.cell_port.proofs.PartsAction.{action-built}
+use Rattle.cell_port.proofs.PartsLoops.{stores-none}
 use Rattle.cell_port.proofs.parts.store_contents.Goals as goal
