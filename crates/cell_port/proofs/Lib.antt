@@ -12,3 +12,4 @@ pub mod PartsObject
 pub mod PartsAction
 pub mod PartsLists
 pub mod PartsLoops
+pub mod ReadBack

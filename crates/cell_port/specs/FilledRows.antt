@@ -1,6 +1,8 @@
 -- The rows of filled cells, each over the rows below it: what they name, and the objects in the order in which they were filled.
-use Rattle.std.specs.Prelude.{◌≡◌, ℕ, ◌<◌, List, [], ◌∷◌, ◌++◌, cond, Some, None}
+use Rattle.std.specs.Prelude.{◌≡◌, ℕ, ◌<◌, List, [], ◌∷◌, ◌++◌, cond, Some, None, IsSome, reverse}
 use Rattle.std.specs.declared.option.Option.{Option}
+use Rattle.std.specs.List.Sorted.{IsStrictlySortedBy}
+use Rattle.cas_model.specs.declared.contents.Pair.{Pair}
 use Rattle.cas_model.specs.declared.digest.Digest.{Digest}
 use Rattle.cas_model.specs.declared.object.Object.{Object}
 use Rattle.cas_model.specs.declared.place.Space.{Space}
@@ -10,7 +12,10 @@ use Rattle.cas_model.specs.declared.tables.Content.{Content}
 use Rattle.cas_model.specs.declared.tables.Record.{Record}
 use Rattle.cas_model.specs.Content.{IsContent, content_places}
 use Rattle.cas_model.specs.Object.{object_digest}
-use Rattle.cas_model.specs.Tables.{same_space, record_at, words_at, cell_of, object_of}
+use Rattle.cas_model.specs.Contents.{contents_state, actions_map, pair_keys, AreLawfulContents}
+use Rattle.cas_model.specs.Primary.{primary}
+use Rattle.cas_model.specs.State.{digest_cmp}
+use Rattle.cas_model.specs.Tables.{Tables, same_space, record_at, words_at, cell_of, object_of, digest_at}
 
 -- the place is that of an object's record, which the rows fill
 pub record IsFilledIn (bound : List Record) (cells : List Cell) (n : ℕ) : Type 0 where
@@ -59,3 +64,35 @@ row_object bound blocks (Some r) value = cond (same_space r.space Objects) (obje
 abbrev pub filled_objects : List Record → List Content → List Cell → List Object
 filled_objects bound blocks [] = []
 filled_objects bound blocks (c ∷ cs) = row_object bound blocks (record_at bound c.of.at) c.value ++ filled_objects bound blocks cs
+
+-- the pair that a row of an action's record names, none where the record is an object's
+abbrev pub row_pair : List Record → Option Record → ℕ → List Pair
+row_pair bound None value = []
+row_pair bound (Some r) value = cond (same_space r.space Actions) ((record { key = r.digest; value = digest_at bound value }) ∷ []) []
+
+-- the pairs that the rows name, the last one filled first
+abbrev pub filled_pairs : List Record → List Cell → List Pair
+filled_pairs bound [] = []
+filled_pairs bound (c ∷ cs) = row_pair bound (record_at bound c.of.at) c.value ++ filled_pairs bound cs
+
+-- contents hold what these tables name: the objects in the order in which they were filled, the actions by rising key
+pub record HoldsContents (s : Tables) (objects : List Object) (actions : List Pair) : Type 0 where
+  pub state : contents_state objects actions ≡ primary s
+  pub lawful : AreLawfulContents objects actions
+  pub order : objects ≡ reverse (filled_objects s.bound s.blocks s.filled)
+  pub rising : IsStrictlySortedBy digest_cmp (pair_keys actions)
+
+-- each place is that of a record
+abbrev pub AreBound : List Record → List ℕ → Type 0
+AreBound bound [] = Unit {0}
+AreBound bound (n ∷ ns) = IsSome (record_at bound n) × AreBound bound ns
+
+-- what a row of an object's record names can be read
+abbrev pub AreReadable : List Record → List Content → Option Record → ℕ → Type 0
+AreReadable bound blocks None value = Unit {0}
+AreReadable bound blocks (Some r) value = r.space ≡ Objects → (words : List ℕ) → words_at blocks value ≡ Some words → AreBound bound (content_places words)
+
+-- the pairs are those that the rows name, by rising key
+pub record HoldsPairs (bound : List Record) (cells : List Cell) (pairs : List Pair) : Type 0 where
+  pub state : actions_map pairs ≡ actions_map (filled_pairs bound cells)
+  pub rising : IsStrictlySortedBy digest_cmp (pair_keys pairs)

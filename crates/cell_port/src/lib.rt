@@ -5,7 +5,9 @@
 mod block;
 mod depth;
 mod digest_words;
+mod holdings;
 mod moves;
+mod pairs;
 mod parts;
 mod plain;
 mod port;

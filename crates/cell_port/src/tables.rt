@@ -1,5 +1,5 @@
 // The rows that a plain port keeps.
-ghost use Rattle.std.specs.Prelude.{◌≡◌, ◌+◌, ◌≤◌, [], ◌∷◌, Some, option_copied, OnOk, OnErr};
+ghost use Rattle.std.specs.Prelude.{◌≡◌, ◌+◌, ◌<◌, ◌≤◌, [], ◌∷◌, length, slice_get, Some, option_copied, OnOk, OnErr};
 ghost use Rattle.cas_model.specs.Tables.{place_of, record_at, cell_of, words_at, empty_start};
 ghost use Rattle.cell_port.specs.Needed.{needed};
 ghost use Rattle.cell_port.specs.Tables.{empty_rows, as_start};
@@ -113,6 +113,24 @@ impl PlainTables {
             Some(words) => Some(words),
             None => find_words(&self.old_contents, place),
         }
+    }
+
+    /// How many rows of filled cells there are.
+    pub fn cell_count(&self) -> usize
+        ensures { result ≡ length self.now.filled }
+    {
+        self.cells.len() + self.old_cells.len()
+    }
+
+    /// The row of a filled cell at an index, the newest first.
+    pub fn cell(&self, index: usize) -> Cell
+        requires { index < length self.now.filled }
+        ensures { slice_get self.now.filled index ≡ Some result }
+    {
+        if index < self.cells.len() {
+            return self.cells[index];
+        }
+        self.old_cells[index - self.cells.len()]
     }
 
     /// How many subtries a digest needs that the bound digests of its space do not need already.

@@ -1,0 +1,6 @@
+use Rattle.std.proofs.Common.{◌≡◌, take}
+use Rattle.cas_model.specs.Content.{bytes_of}
+use Rattle.cell_port.proofs.holdings.read_data.Given as goal
+
+abbrev pub invariant-loop-word : goal.invariant-loop-word
+invariant-loop-word l = l.bytes.items ≡ bytes_of (take l.word-index l.words)
