@@ -13,3 +13,4 @@ pub mod PartsAction
 pub mod PartsLists
 pub mod PartsLoops
 pub mod ReadBack
+pub mod PairRows

@@ -15,7 +15,7 @@ use Rattle.cas_model.specs.Object.{object_digest}
 use Rattle.cas_model.specs.Contents.{contents_state, actions_map, pair_keys, AreLawfulContents}
 use Rattle.cas_model.specs.Primary.{primary}
 use Rattle.cas_model.specs.State.{digest_cmp}
-use Rattle.cas_model.specs.Tables.{Tables, same_space, record_at, words_at, cell_of, object_of, digest_at}
+use Rattle.cas_model.specs.Tables.{Tables, same_digest, same_space, record_at, words_at, cell_of, object_of, digest_at}
 
 -- the place is that of an object's record, which the rows fill
 pub record IsFilledIn (bound : List Record) (cells : List Cell) (n : ℕ) : Type 0 where
@@ -96,3 +96,13 @@ AreReadable bound blocks (Some r) value = r.space ≡ Objects → (words : List 
 pub record HoldsPairs (bound : List Record) (cells : List Cell) (pairs : List Pair) : Type 0 where
   pub state : actions_map pairs ≡ actions_map (filled_pairs bound cells)
   pub rising : IsStrictlySortedBy digest_cmp (pair_keys pairs)
+
+-- the value of a row of an action's record is that of a record
+abbrev pub HasValue : List Record → Option Record → ℕ → Type 0
+HasValue bound None value = Unit {0}
+HasValue bound (Some r) value = r.space ≡ Actions → IsSome (record_at bound value)
+
+-- the value at a key, after the first of these pairs was put in
+abbrev pub value_over : List Pair → Option Digest → Digest → Option Digest
+value_over [] old q = old
+value_over (p ∷ ps) old q = cond (same_digest q p.key) (Some p.value) old
