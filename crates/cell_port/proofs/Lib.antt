@@ -14,3 +14,4 @@ pub mod PartsLists
 pub mod PartsLoops
 pub mod ReadBack
 pub mod PairRows
+pub mod HeldContents

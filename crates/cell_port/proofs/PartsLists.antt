@@ -125,6 +125,10 @@ digest-reverse os d m =
     (member-reverse object_digest (λ (o : Object). o) (reverse os) d
     (subst (λ (ds : List Digest). Member d ds) (object-keys os ∙ ap (λ (xs : List Object). keys object_digest (λ (o : Object). o) xs) (sym (reverse-reverse os))) m))
 
+pub reverse-digest : (os : List Object) (d : Digest) → Member d (object_digests (reverse os)) → Member d (object_digests os)
+reverse-digest os d m =
+    subst (λ (ds : List Digest). Member d ds) (sym (object-keys os)) (member-reverse object_digest (λ (o : Object). o) os d (subst (λ (ds : List Digest). Member d ds) (object-keys (reverse os)) m))
+
 pub puttable-there : (digests others known : List Digest) (ps : List Pair) → ((d : Digest) → Member d digests → Member d others) → ArePuttable digests known ps → ArePuttable others known ps
 puttable-there digests others known [] there puttable = tt
 puttable-there digests others known (p ∷ ps) there puttable = (there p.value puttable.0, puttable.1, puttable-there digests others (p.key ∷ known) ps there puttable.2)

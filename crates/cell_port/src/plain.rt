@@ -5,12 +5,15 @@ ghost use Rattle.cas_model.specs.Tables.{empty_start};
 ghost use Rattle.cas_model.specs.Tables.{place_of};
 ghost use Rattle.cell_port.specs.Calls.{IsLawful, HasClaimed, ClaimRefused, BoundTo, BindRefused, Ticks, event_of};
 ghost use Rattle.cell_port.specs.Claims.{contents_claims, Refuses};
+ghost use Rattle.cell_port.specs.FilledRows.{HoldsContents};
 ghost use Rattle.cell_port.specs.Parts.{OpensAt};
 ghost use Rattle.cell_port.specs.Plain.{bind_events, refused_events, HasSeen};
 ghost use Rattle.cell_port.specs.PlainView.{port_view, port_tables};
 
 use crate::digest_words::digest_word;
+use crate::holdings::objects;
 use crate::moves::{bind_new, fill_cell, publish};
+use crate::pairs::pairs;
 use crate::parts::store_contents;
 use crate::searches::{take_open, whole_words, write_open};
 use crate::tables::PlainTables;
@@ -120,6 +123,17 @@ impl<'u, U: Upstream> PlainPort<'u, U> {
             opened,
             events,
         }
+    }
+
+    /// What the port holds: the objects in the order in which they were filled, so each after those that it refers to,
+    /// and the actions by rising key. They can be stored again in this order.
+    pub fn contents(&self) -> Result<Contents, AllocError>
+        ensures { IfOk result (λ contents. HoldsContents (port_tables self.now) contents.objects.items contents.actions.items) }
+    {
+        Ok(Contents {
+            objects: objects(self.alloc, &self.tables)?,
+            actions: pairs(self.alloc, &self.tables)?,
+        })
     }
 
     /// Gives up the port, and keeps its start and what it has seen.
