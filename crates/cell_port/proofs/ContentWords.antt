@@ -1,11 +1,11 @@
 -- The words of a content, one after the other.
-use Rattle.std.proofs.Common.{◌≡◌, ℕ, zero, suc, ◌+◌, ◌*◌, ◌/◌, ◌<◌, ◌≤◌, ◌^◌, List, [], ◌∷◌, ◌++◌, length, get_or, take, drop, refl, ap, sym, ◌∙◌, arith, add-one, append_assoc, w64}
+use Rattle.std.proofs.Common.{◌≡◌, ℕ, zero, suc, ◌+◌, ◌*◌, ◌/◌, ◌<◌, ◌≤◌, List, [], ◌∷◌, ◌++◌, length, get_or, take, drop, refl, ap, sym, ◌∙◌, arith, append_assoc, w64}
 use Rattle.std.specs.Int.{from_le_bytes}
 use Rattle.std.proofs.lemmas.List.{drop-drop, take_more, take_all, length-append}
 use Rattle.cas_model.specs.declared.digest.Digest.{Digest}
 use Rattle.cas_model.specs.declared.place.Space.TheVariants.{Objects}
 use Rattle.cas_model.specs.declared.tables.Record.{Record}
-use Rattle.cas_model.specs.Content.{content_words, content_size, content_head, data_words, words_from, data_word_at}
+use Rattle.cas_model.specs.Content.{content_words, content_size, data_words, words_from, data_word_at}
 use Rattle.cas_model.specs.State.{AreBytes}
 use Rattle.cas_model.specs.Tables.{place_of}
 use Rattle.cell_port.specs.Parts.{at_place, places_of}

@@ -1,5 +1,5 @@
 -- How many subtries a digest needs, by the two deepest levels that it shares.
-use Rattle.std.proofs.Common.{◌≡◌, ◌≢◌, ℕ, zero, suc, ◌+◌, ◌-◌, ◌<◌, ◌≤◌, List, [], ◌∷◌, ◌++◌, Bool, true, false, cond, ◌==◌, ◌&&◌, ◌/◌, ◌%◌, ◌⊎◌, inl, inr, nat_eq, nat_lt, slice_index, refl, ap, sym, subst, ◌∙◌, arith, count_by, min}
+use Rattle.std.proofs.Common.{◌≡◌, ◌≢◌, ℕ, zero, suc, ◌+◌, ◌-◌, ◌<◌, ◌≤◌, List, [], ◌∷◌, ◌++◌, Bool, true, false, cond, ◌==◌, ◌&&◌, ◌/◌, ◌%◌, ◌⊎◌, inl, inr, nat_eq, nat_lt, slice_index, refl, ap, sym, subst, ◌∙◌, arith, min}
 use Rattle.std.proofs.lemmas.Bool.{ltb-true, ltb-false, eq-eqb, ne_eqb}
 use Rattle.std.proofs.lemmas.List.Sums.{sum_by-cons}
 use Rattle.std.proofs.lemmas.Bool.Decides.{eqb_tells}
@@ -7,9 +7,9 @@ use Rattle.cas_model.specs.declared.digest.Digest.{Digest}
 use Rattle.cas_model.specs.declared.place.Space.{Space}
 use Rattle.cas_model.specs.declared.tables.Record.{Record}
 use Rattle.cas_model.specs.Tables.{same_space}
-use Rattle.cas_model.specs.Trie.{index_of, nibble, path, sharing, new_subtries}
+use Rattle.cas_model.specs.Trie.{index_of, nibble, sharing, new_subtries}
 use Rattle.cell_port.specs.declared.subtries.Deepest.{Deepest}
-use Rattle.cell_port.specs.Depth.{shares, shared, shared_level, with_level, deepest_of, deepest_in}
+use Rattle.cell_port.specs.Depth.{shares, shared, shared_level, with_level, deepest_in}
 use Rattle.cell_port.specs.Needed.{bound_in, needed}
 
 index-next : (bytes : List ℕ) (level n : ℕ) → 0 < level → n ≡ level + 1 → index_of bytes level ≡ nibble bytes n

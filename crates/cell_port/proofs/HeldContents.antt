@@ -1,12 +1,12 @@
 -- What the rows hold is the primary state, and can be stored again in this order.
-use Rattle.std.proofs.Common.{◌≡◌, ℕ, zero, suc, ◌+◌, ◌<◌, ◌≤◌, ◌⊎◌, ◌++◌, List, [], ◌∷◌, Bool, true, false, cond, ◌==◌, inl, inr, Some, None, length, reverse, refl, ap, sym, ◌∙◌, subst, arith}
+use Rattle.std.proofs.Common.{◌≡◌, ℕ, zero, suc, ◌<◌, ◌≤◌, ◌⊎◌, ◌++◌, List, [], ◌∷◌, Bool, true, false, cond, ◌==◌, inl, inr, Some, None, length, reverse, refl, ap, sym, ◌∙◌, subst, arith}
 use Rattle.std.specs.declared.option.Option.{Option}
 use Rattle.std.specs.declared.cmp.Ordering.TheVariants.{Less}
 use Rattle.std.specs.FinMap as fin
 use Rattle.std.specs.List.{AllByRecursion}
 use Rattle.std.specs.List.Sorted.{IsStrictlySortedBy}
 use Rattle.std.specs.Option.{option_map}
-use Rattle.std.proofs.lemmas.Bool.{eqb-true, eq-eqb, ne_eqb}
+use Rattle.std.proofs.lemmas.Bool.{eqb-true, eq-eqb}
 use Rattle.std.proofs.lemmas.List.{reverse-reverse}
 use Rattle.cas_model.specs.declared.contents.Pair.{Pair}
 use Rattle.cas_model.specs.declared.digest.Digest.{Digest}
@@ -18,18 +18,18 @@ use Rattle.cas_model.specs.declared.tables.Cell.{Cell}
 use Rattle.cas_model.specs.declared.tables.Content.{Content}
 use Rattle.cas_model.specs.declared.tables.Record.{Record}
 use Rattle.cas_model.specs.Content.{content_places}
-use Rattle.cas_model.specs.Contents.{contents_state, objects_map, actions_map, object_digests, pair_keys, AllMembers, AreStorable, ArePuttable, AreLawfulContents}
+use Rattle.cas_model.specs.Contents.{contents_state, objects_map, actions_map, object_digests, pair_keys, AllMembers, AreStorable, ArePuttable}
 use Rattle.cas_model.specs.Object.{object_digest}
-use Rattle.cas_model.specs.Primary.{primary, object_under, value_under, object_in, value_in, cell_under, cell_at}
+use Rattle.cas_model.specs.Primary.{primary, object_under, value_under, object_in, value_in, cell_at}
 use Rattle.cas_model.specs.Start.{IsTied}
 use Rattle.cas_model.specs.State.{State, digest_cmp, Member}
 use Rattle.cas_model.specs.Tables.{Tables, place_of, record_at, words_at, cell_of, object_of, digest_at, digests_at, digest_of_record, same_space, same_digest}
-use Rattle.cas_model.proofs.Maps.{get-put, get-object, get-value, same-maps, same-states, same-is, same-self, digest_total}
+use Rattle.cas_model.proofs.Maps.{get-put, get-object, get-value, same-states, same-is, same-self, digest_total}
 use Rattle.cas_history.specs.Run.{tables}
 use Rattle.cas_history.proofs.Sound.{sound-run}
 use Rattle.cell_port.specs.declared.block.OpenBlock.{OpenBlock}
 use Rattle.cas_history.specs.declared.event.Event.{Event}
-use Rattle.cell_port.specs.FilledRows.{IsFilledIn, AreFilledIn, NamesObject, RowNames, IsRow, AreRows, filled_objects, filled_pairs, row_object, row_pair, object_with, HoldsPairs, HoldsContents}
+use Rattle.cell_port.specs.FilledRows.{IsFilledIn, AreFilledIn, RowNames, IsRow, AreRows, filled_objects, filled_pairs, row_object, row_pair, object_with, HoldsPairs, HoldsContents}
 use Rattle.cell_port.specs.Plain.{Tied}
 use Rattle.cell_port.specs.Tables.{PlainRows}
 use Rattle.cell_port.proofs.PartsBuilt.{member-has}
@@ -66,9 +66,12 @@ module _ (bound : List Record) (blocks : List Content) (tied : IsTied bound) whe
   under-row c cs found space q at = step (place_of bound space q) refl where
     step : (o : Option Place) → place_of bound space q ≡ o
         → ((found.space ≡ space) × (found.digest ≡ q) × (cell_at (c ∷ cs) o ≡ c.value)) ⊎ (((found.space ≡ space) × (found.digest ≡ q) → ⊥) × (cell_at (c ∷ cs) o ≡ cell_at cs o))
-    step None is = inr (λ h.
-        let moved : place_of bound found.space found.digest ≡ place_of bound space q = λ i. place_of bound (h.0 i) (h.1 i) in
-        cc ((tied.back c.of.at found at).0, moved, is), refl)
+    step None is = inr (
+      λ h.
+          let moved : place_of bound found.space found.digest ≡ place_of bound space q = λ i. place_of bound (h.0 i) (h.1 i) in
+          cc ((tied.back c.of.at found at).0, moved, is),
+      refl,
+    )
     step (Some p) is = by (c.of.at == p.at) refl where
       there : (x : Record) × (record_at bound p.at ≡ Some x) × (x.space ≡ space) × (x.digest ≡ q)
       there = tied.to space q p is
@@ -80,13 +83,16 @@ module _ (bound : List Record) (blocks : List Content) (tied : IsTied bound) whe
           let e : Some found ≡ Some there.0 = sym at ∙ ap (record_at bound) (eqb-true c.of.at p.at test) ∙ there.1 in
           let same : found ≡ there.0 = cc in
           inl (ap (λ (x : Record). x.space) same ∙ there.2, ap (λ (x : Record). x.digest) same ∙ there.3, refl)
-      by false test = inr (λ h.
-          let own = tied.back c.of.at found at in
-          let moved : place_of bound found.space found.digest ≡ place_of bound space q = λ i. place_of bound (h.0 i) (h.1 i) in
-          let e : Some found.place ≡ Some p = sym own.0 ∙ moved ∙ is in
-          let same : found.place ≡ p = cc in
-          let at_p : c.of.at ≡ p.at = sym own.1 ∙ ap (λ (x : Place). x.at) same in
-          cc (eq-eqb c.of.at p.at at_p, test), refl)
+      by false test = inr (
+        λ h.
+            let own = tied.back c.of.at found at in
+            let moved : place_of bound found.space found.digest ≡ place_of bound space q = λ i. place_of bound (h.0 i) (h.1 i) in
+            let e : Some found.place ≡ Some p = sym own.0 ∙ moved ∙ is in
+            let same : found.place ≡ p = cc in
+            let at_p : c.of.at ≡ p.at = sym own.1 ∙ ap (λ (x : Place). x.at) same in
+            cc (eq-eqb c.of.at p.at at_p, test),
+        refl,
+      )
 
   pub objects-under : (cells : List Cell) → AreRows bound blocks cells → (q : Digest) → fin.get (objects_map (filled_objects bound blocks cells)) q ≡ object_under (rows_of bound blocks cells) q
   objects-under [] rows q = fin.get-empty digest_cmp q ∙ sym (ap (object_in (rows_of bound blocks [])) (cell-none (place_of bound Objects q)))
@@ -266,7 +272,7 @@ module _ (bound : List Record) (blocks : List Content) (tied : IsTied bound) whe
         (λ d m. inr (digest-reverse (filled_objects bound blocks cs) d (refs-member cs rows.1 (content_places words) names.refs d m)))
         (λ m. m)
         (λ m. row-new c cs rows.1 rows.0 refl rows.0.found rows.0.is is
-            (subst (λ x. Member x (object_digests (filled_objects bound blocks cs))) names.named (reverse-digest (filled_objects bound blocks cs) (object_digest o) m)))))
+        (subst (λ x. Member x (object_digests (filled_objects bound blocks cs))) names.named (reverse-digest (filled_objects bound blocks cs) (object_digest o) m)))))
 
   -- ---- the actions
 
@@ -339,14 +345,14 @@ holds-contents up r opened seen objects pairs t are holds =
     record {
       state = same-states (contents_state objects pairs) (primary s)
           (λ d. ap (λ (os : List Object). fin.get (objects_map os) d) are ∙ ap (λ m. fin.get m d) turned ∙ objects-under r.bound r.blocks tied r.filled t.rows d
-              ∙ (λ i. object_under (rows_of (sym t.ties.bound_is i) (sym t.ties.blocks_is i) (sym t.ties.filled_is i)) d) ∙ sym (get-object s d))
+          ∙ (λ i. object_under (rows_of (sym t.ties.bound_is i) (sym t.ties.blocks_is i) (sym t.ties.filled_is i)) d) ∙ sym (get-object s d))
           (λ k. ap (λ m. fin.get m k) holds.state ∙ values-under r.bound r.blocks tied r.filled t.rows k
-              ∙ (λ i. value_under (rows_of (sym t.ties.bound_is i) (sym t.ties.blocks_is i) (sym t.ties.filled_is i)) k) ∙ sym (get-value s k));
+          ∙ (λ i. value_under (rows_of (sym t.ties.bound_is i) (sym t.ties.blocks_is i) (sym t.ties.filled_is i)) k) ∙ sym (get-value s k));
       lawful = record {
         storable = subst (λ (os : List Object). AreStorable [] os) (sym are) storable;
         puttable = puttable-rise (object_digests objects) [] pairs holds.rising
             (λ k v is. subst (λ (os : List Object). Member v (object_digests os)) (sym are)
-                (digest-reverse fo v (value-member r.bound r.blocks tied r.filled t.rows k v (ap (λ m. fin.get m k) (sym holds.state) ∙ is))))
+            (digest-reverse fo v (value-member r.bound r.blocks tied r.filled t.rows k v (ap (λ m. fin.get m k) (sym holds.state) ∙ is))))
             (λ k m n. m);
       };
       order = are ∙ (λ i. reverse (filled_objects (sym t.ties.bound_is i) (sym t.ties.blocks_is i) (sym t.ties.filled_is i)));

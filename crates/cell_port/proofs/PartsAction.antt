@@ -1,53 +1,38 @@
 -- One more action in the rows of contents.
-use Rattle.std.proofs.Common.{◌≡◌, ◌≢◌, ℕ, zero, suc, ◌+◌, ◌*◌, ◌/◌, ◌^◌, ◌<◌, ◌≤◌, ◌⊎◌, ◌++◌, List, [], ◌∷◌, Bool, true, false, cond, ◌==◌, ◌&&◌, inl, inr, Some, None, IsSome, is_some, length, get_or, min, append-nil, refl, ap, sym, ◌∙◌, subst, arith}
+use Rattle.std.proofs.Common.{◌≡◌, ℕ, ◌+◌, ◌*◌, ◌<◌, ◌≤◌, ◌++◌, List, [], ◌∷◌, cond, Some, None, refl, ap, sym, ◌∙◌, subst, arith}
 use Rattle.std.specs.declared.option.Option.{Option}
 use Rattle.std.specs.FinMap as fin
-use Rattle.std.proofs.lemmas.Bool.{eqb-true, eq-eqb}
-use Rattle.cas_model.specs.declared.call.Who.{Who}
+use Rattle.std.proofs.lemmas.Bool.{eq-eqb}
 use Rattle.cas_model.specs.declared.contents.Pair.{Pair}
 use Rattle.cas_model.specs.declared.digest.Digest.{Digest}
-use Rattle.cas_model.specs.declared.note.Note.{Note}
-use Rattle.cas_model.specs.declared.note.Stage.TheVariants.{Own}
 use Rattle.cas_model.specs.declared.object.Object.{Object}
 use Rattle.cas_model.specs.declared.place.Place.{Place}
-use Rattle.cas_model.specs.declared.place.Space.{Space}
 use Rattle.cas_model.specs.declared.place.Space.TheVariants.{Objects, Actions}
 use Rattle.cas_model.specs.declared.tables.Cell.{Cell}
-use Rattle.cas_model.specs.declared.tables.Content.{Content}
 use Rattle.cas_model.specs.declared.tables.Record.{Record}
-use Rattle.cas_model.specs.Content.{IsContent, content_words, content_places, content_bytes, content_size}
-use Rattle.cas_model.specs.Contents.{contents_state, objects_map, actions_map, object_digests, pair_keys, AllMembers}
-use Rattle.cas_model.specs.Object.{object_digest}
-use Rattle.cas_model.specs.Primary.{primary, object_under, cell_under, cell_at}
-use Rattle.cas_model.specs.Start.{IsLawfulStart, IsFilled, IsRecord, RefsBelow, IsContentFor}
-use Rattle.cas_model.specs.State.{State, empty_state, digest_cmp, Member, AreBytes}
-use Rattle.cas_model.specs.Tables.{Tables, place_of, record_at, words_at, cell_of, object_of, digest_at, digests_at, digest_of_record, is_for, same_space, same_digest}
-use Rattle.cas_model.proofs.Maps.{get-put, get-object, get-value, same-is, same-self}
-use Rattle.cas_model.proofs.ContentLemmas.{content_places-words, content_bytes-words, content_words-IsContent}
+use Rattle.cas_model.specs.Contents.{contents_state, object_digests, pair_keys}
+use Rattle.cas_model.specs.Primary.{primary}
+use Rattle.cas_model.specs.Start.{IsLawfulStart, IsFilled}
+use Rattle.cas_model.specs.State.{State, empty_state, digest_cmp, Member}
+use Rattle.cas_model.specs.Tables.{Tables, place_of, record_at, cell_of, digest_at, digest_of_record}
 use Rattle.cas_history.specs.declared.event.Act.TheVariants.{Bind, Claim, Fill}
 use Rattle.cas_history.specs.declared.event.Event.{Event}
 use Rattle.cas_history.specs.Carried.{carried, state_filled_by}
 use Rattle.cas_history.specs.End.{ended}
 use Rattle.cas_history.specs.Grows.{Grows}
-use Rattle.cas_history.specs.Lawful.{IsLawfulRun, IsObjectRule, IsActionRule, Agrees}
-use Rattle.cas_history.specs.Run.{tables, published}
+use Rattle.cas_history.specs.Lawful.{IsActionRule, Agrees}
+use Rattle.cas_history.specs.Run.{tables}
 use Rattle.cas_history.proofs.Ended.{end-is-start}
-use Rattle.cas_history.proofs.Grown.{grows-more}
-use Rattle.cas_history.proofs.Sound.{IsSound, sound-start}
-use Rattle.cas_history.proofs.Under.{IsUnder, under-cases, under-none, carried-is}
-use Rattle.cell_port.specs.declared.block.OpenBlock.{OpenBlock}
-use Rattle.cell_port.specs.Blank.{none_written}
+use Rattle.cas_history.proofs.Under.{carried-is}
 use Rattle.cell_port.specs.Calls.{event_of}
-use Rattle.cell_port.specs.FilledRows.{AreRows, RowNames, filled_objects, row_object, object_with}
-use Rattle.cell_port.specs.Needed.{bound_in, needed}
-use Rattle.cell_port.specs.Parts.{at_place, places_of, with_object, with_action, IsBuilt}
-use Rattle.cell_port.specs.Plain.{Ties, Tied, claims_on, bind_claims, rows_filled}
+use Rattle.cell_port.specs.FilledRows.{filled_objects, row_object}
+use Rattle.cell_port.specs.Needed.{needed}
+use Rattle.cell_port.specs.Parts.{at_place, with_action, IsBuilt}
+use Rattle.cell_port.specs.Plain.{Tied, bind_claims, rows_filled}
 use Rattle.cell_port.specs.Tables.{PlainRows, as_start}
-use Rattle.cell_port.specs.View.{IsOpenFor, close_block}
-use Rattle.cell_port.proofs.ContentWords.{length-content, length-places}
-use Rattle.cell_port.proofs.PlainTies.{tied-bind, tied-open, tied-fill, tied-place, length-none, content-long, counter-free}
-use Rattle.cell_port.proofs.RowsGrow.{RecordsStay, ContentsStay, records-more, contents-more, records-same, contents-same, object-grow}
-use Rattle.cell_port.proofs.PartsBuilt.{somebody, from_here, tied-here, ended-is, carried-claims, RefIs, ref-is, refs-there, none-in, bytes-at, grows-run, filled-stay}
+use Rattle.cell_port.proofs.PlainTies.{tied-bind, tied-place, counter-free}
+use Rattle.cell_port.proofs.RowsGrow.{records-more, contents-same}
+use Rattle.cell_port.proofs.PartsBuilt.{somebody, from_here, tied-here, ended-is, carried-claims, RefIs, ref-is, none-in, grows-run, filled-stay}
 
 module _ (r : PlainRows) (size claimed : ℕ) (objects : List Object) (pairs : List Pair) (built : IsBuilt size claimed objects pairs r) (p : Pair)
     (there : Member p.value (object_digests objects)) (fresh : Member p.key (pair_keys pairs) → ⊥) (fits : (with_action r p).counter ≤ r.start.size) where

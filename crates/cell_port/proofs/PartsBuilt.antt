@@ -1,9 +1,7 @@
 -- What holds of the rows in which contents are stored.
-use Rattle.std.proofs.Common.{◌≡◌, ◌≢◌, ℕ, zero, suc, ◌+◌, ◌*◌, ◌/◌, ◌^◌, ◌<◌, ◌≤◌, ◌⊎◌, ◌++◌, List, [], ◌∷◌, Bool, true, false, cond, ◌==◌, ◌&&◌, inl, inr, Some, None, IsSome, is_some, length, get_or, min, append-nil, refl, ap, sym, ◌∙◌, subst, arith}
+use Rattle.std.proofs.Common.{◌≡◌, ℕ, zero, suc, ◌<◌, ◌≤◌, ◌⊎◌, ◌++◌, List, [], ◌∷◌, Bool, true, false, cond, ◌&&◌, inl, inr, Some, None, length, get_or, min, append-nil, refl, ap, sym, ◌∙◌, subst, arith}
 use Rattle.std.specs.declared.option.Option.{Option}
 use Rattle.std.specs.FinMap as fin
-use Rattle.std.proofs.lemmas.Bool.{eqb-true, eq-eqb}
-use Rattle.cas_model.specs.declared.call.Who.{Who}
 use Rattle.cas_model.specs.declared.contents.Pair.{Pair}
 use Rattle.cas_model.specs.declared.digest.Digest.{Digest}
 use Rattle.cas_model.specs.declared.note.Note.{Note}
@@ -15,38 +13,29 @@ use Rattle.cas_model.specs.declared.place.Space.TheVariants.{Objects, Actions}
 use Rattle.cas_model.specs.declared.tables.Cell.{Cell}
 use Rattle.cas_model.specs.declared.tables.Content.{Content}
 use Rattle.cas_model.specs.declared.tables.Record.{Record}
-use Rattle.cas_model.specs.Content.{IsContent, content_words, content_places, content_bytes, content_size}
-use Rattle.cas_model.specs.Contents.{contents_state, objects_map, actions_map, object_digests, pair_keys, AllMembers}
+use Rattle.cas_model.specs.Contents.{contents_state, objects_map, object_digests, AllMembers}
 use Rattle.cas_model.specs.Object.{object_digest}
-use Rattle.cas_model.specs.Primary.{primary, object_under, cell_under, cell_at}
-use Rattle.cas_model.specs.Start.{IsLawfulStart, IsFilled, IsRecord, RefsBelow, IsContentFor}
-use Rattle.cas_model.specs.State.{State, empty_state, digest_cmp, Member, AreBytes}
-use Rattle.cas_model.specs.Tables.{Tables, place_of, record_at, words_at, cell_of, object_of, digest_at, digests_at, digest_of_record, is_for, same_space, same_digest}
-use Rattle.cas_model.proofs.Maps.{get-put, get-object, get-value, same-is, same-self}
-use Rattle.cas_model.proofs.ContentLemmas.{content_places-words, content_bytes-words, content_words-IsContent}
-use Rattle.cas_history.specs.declared.event.Act.TheVariants.{Bind, Claim, Fill}
+use Rattle.cas_model.specs.Primary.{primary, cell_under}
+use Rattle.cas_model.specs.Start.{IsLawfulStart, IsFilled, RefsBelow}
+use Rattle.cas_model.specs.State.{State, empty_state, Member, AreBytes}
+use Rattle.cas_model.specs.Tables.{Tables, place_of, record_at, words_at, cell_of, digest_at, digests_at, digest_of_record, same_space, same_digest}
+use Rattle.cas_model.proofs.Maps.{get-put, get-object, same-is, same-self}
 use Rattle.cas_history.specs.declared.event.Event.{Event}
-use Rattle.cas_history.specs.Carried.{carried, state_filled_by}
+use Rattle.cas_history.specs.Carried.{carried}
 use Rattle.cas_history.specs.End.{ended}
 use Rattle.cas_history.specs.Grows.{Grows}
-use Rattle.cas_history.specs.Lawful.{IsLawfulRun, IsObjectRule, IsActionRule, Agrees}
-use Rattle.cas_history.specs.Run.{tables, published}
-use Rattle.cas_history.proofs.Ended.{end-is-start}
+use Rattle.cas_history.specs.Lawful.{IsLawfulRun}
+use Rattle.cas_history.specs.Run.{tables}
 use Rattle.cas_history.proofs.Grown.{grows-more}
-use Rattle.cas_history.proofs.Sound.{IsSound, sound-start}
-use Rattle.cas_history.proofs.Under.{IsUnder, under-cases, under-none, carried-is}
-use Rattle.cell_port.specs.declared.block.OpenBlock.{OpenBlock}
-use Rattle.cell_port.specs.Blank.{none_written}
-use Rattle.cell_port.specs.Calls.{event_of}
+use Rattle.cas_history.proofs.Sound.{sound-start}
+use Rattle.cas_history.proofs.Under.{IsUnder, under-cases, under-none}
 use Rattle.cell_port.specs.FilledRows.{AreRows, RowNames, filled_objects, row_object, object_with}
-use Rattle.cell_port.specs.Needed.{bound_in, needed}
-use Rattle.cell_port.specs.Parts.{at_place, places_of, with_object, with_action, IsBuilt}
-use Rattle.cell_port.specs.Plain.{Ties, Tied, claims_on, bind_claims, rows_filled}
+use Rattle.cell_port.specs.Needed.{bound_in}
+use Rattle.cell_port.specs.Parts.{at_place, places_of}
+use Rattle.cell_port.specs.Plain.{Ties, Tied, claims_on}
 use Rattle.cell_port.specs.Tables.{PlainRows, as_start}
-use Rattle.cell_port.specs.View.{IsOpenFor, close_block}
-use Rattle.cell_port.proofs.ContentWords.{length-content, length-places}
-use Rattle.cell_port.proofs.PlainTies.{tied-bind, tied-open, tied-fill, tied-place, length-none, content-long, counter-free}
-use Rattle.cell_port.proofs.RowsGrow.{RecordsStay, ContentsStay, records-more, contents-more, records-same, contents-same, object-grow}
+use Rattle.cell_port.proofs.PlainTies.{content-long}
+use Rattle.cell_port.proofs.RowsGrow.{RecordsStay, ContentsStay, object-grow}
 
 -- ---- what is bound
 
@@ -174,4 +163,3 @@ bytes-at (b ∷ bs) all (suc i) = bytes-at bs all.1 i
 pub grows-run : (up : State) (start : Tables) (seen : List Event) → IsLawfulRun up start seen → Grows start (tables start seen)
 grows-run up start seen lawful =
     subst (λ (es : List Event). Grows start (tables start es)) (append-nil seen) (grows-more up start seen [] (subst (λ (es : List Event). IsLawfulRun up start es) (sym (append-nil seen)) lawful))
-

@@ -1,13 +1,13 @@
 -- Contents in their order and the other way round.
-use Rattle.std.proofs.Common.{◌≡◌, ℕ, zero, suc, ◌+◌, ◌<◌, ◌≤◌, ◌⊎◌, ◌++◌, List, [], ◌∷◌, Bool, true, false, cond, inl, inr, Some, None, length, reverse, refl, ap, sym, ◌∙◌, subst, append-nil, append_assoc}
+use Rattle.std.proofs.Common.{◌≡◌, ◌⊎◌, ◌++◌, List, [], ◌∷◌, Bool, true, false, cond, inl, inr, Some, reverse, refl, ap, sym, ◌∙◌, subst}
 use Rattle.std.specs.FinMap as fin
 use Rattle.std.proofs.lemmas.List.{reverse-append, reverse-reverse}
 use Rattle.cas_model.specs.declared.contents.Pair.{Pair}
 use Rattle.cas_model.specs.declared.digest.Digest.{Digest}
 use Rattle.cas_model.specs.declared.object.Object.{Object}
-use Rattle.cas_model.specs.Contents.{contents_state, objects_map, actions_map, object_digests, pair_keys, AreStorable, ArePuttable}
+use Rattle.cas_model.specs.Contents.{objects_map, actions_map, object_digests, pair_keys, AreStorable, ArePuttable}
 use Rattle.cas_model.specs.Object.{object_digest}
-use Rattle.cas_model.specs.State.{State, digest_cmp, Member}
+use Rattle.cas_model.specs.State.{digest_cmp, Member}
 use Rattle.cas_model.specs.Tables.{same_digest}
 use Rattle.cas_model.proofs.Maps.{get-put, same-maps, same-is}
 
@@ -20,11 +20,11 @@ swap {X} m a b x y differ = same-maps _ _ (λ q.
     get-put (fin.insert m a x) b y q ∙ ap (cond (same_digest q b) (Some y)) (get-put m a x q)
     ∙ step q (same_digest q b) (same_digest q a) refl refl
     ∙ sym (get-put (fin.insert m b y) a x q ∙ ap (cond (same_digest q a) (Some x)) (get-put m b y q))) where
-  step : (q : Digest) (s t : Bool) → same_digest q b ≡ s → same_digest q a ≡ t → cond s (Some y) (cond t (Some x) (fin.get m q)) ≡ cond t (Some x) (cond s (Some y) (fin.get m q))
-  step q true true one two = absurd (differ (sym (same-is q a two) ∙ same-is q b one))
-  step q true false one two = refl
-  step q false true one two = refl
-  step q false false one two = refl
+      step : (q : Digest) (s t : Bool) → same_digest q b ≡ s → same_digest q a ≡ t → cond s (Some y) (cond t (Some x) (fin.get m q)) ≡ cond t (Some x) (cond s (Some y) (fin.get m q))
+      step q true true one two = absurd (differ (sym (same-is q a two) ∙ same-is q b one))
+      step q true false one two = refl
+      step q false true one two = refl
+      step q false false one two = refl
 
 module _ {A X : Type 0} (key : A → Digest) (val : A → X) where
   abbrev pub keys : List A → List Digest

@@ -1,15 +1,14 @@
 -- Contents are stored one after the other.
-use Rattle.std.proofs.Common.{◌≡◌, ℕ, zero, suc, ◌+◌, ◌*◌, ◌<◌, ◌≤◌, ◌++◌, List, [], ◌∷◌, None, length, get_or, drop, reverse, sum, refl, ap, sym, ◌∙◌, subst, arith, append-nil, append_assoc, add-one}
+use Rattle.std.proofs.Common.{◌≡◌, ℕ, ◌+◌, ◌*◌, ◌<◌, ◌≤◌, ◌++◌, List, [], ◌∷◌, None, length, get_or, drop, reverse, sum, refl, ap, sym, ◌∙◌, subst, arith, append-nil, append_assoc, add-one}
 use Rattle.std.proofs.Math.Seq.{drop-cons, drop-length}
 use Rattle.cas_model.specs.declared.contents.Pair.{Pair}
 use Rattle.cas_model.specs.declared.digest.Digest.{Digest}
 use Rattle.cas_model.specs.declared.object.Object.{Object}
 use Rattle.cas_model.specs.declared.place.Space.TheVariants.{Objects, Actions}
 use Rattle.cas_model.specs.Content.{content_size, content_words}
-use Rattle.cas_model.specs.Contents.{contents_state, objects_map, actions_map, object_digests, pair_keys, AllMembers, AreStorable, ArePuttable, AreLawfulContents}
+use Rattle.cas_model.specs.Contents.{contents_state, object_digests, pair_keys, AreStorable, ArePuttable, AreLawfulContents}
 use Rattle.cas_model.specs.Object.{object_digest}
-use Rattle.cas_model.specs.Primary.{primary}
-use Rattle.cas_model.specs.State.{State, Member, AreBytes}
+use Rattle.cas_model.specs.State.{Member, AreBytes}
 use Rattle.cas_model.specs.Tables.{Tables, place_of, empty_start}
 use Rattle.cas_history.proofs.Ended.{empty-start}
 use Rattle.cell_port.specs.declared.block.PortError.{PortError}

@@ -1,6 +1,5 @@
 -- The bind of a plain port is what the contract of a port says.
-use Rattle.std.proofs.Common.{◌≡◌, ℕ, zero, suc, ◌+◌, ◌*◌, ◌-◌, ◌/◌, ◌<◌, ◌≤◌, List, [], ◌∷◌, ◌++◌, Bool, true, false, cond, ◌⊎◌, inl, inr, Some, None, Ok, Err, Result, IsErrAnd, IfErr, refl, ap, sym, ◌∙◌, subst, arith}
-use Rattle.std.specs.declared.option.Option.{Option}
+use Rattle.std.proofs.Common.{◌≡◌, ℕ, zero, suc, ◌+◌, ◌*◌, ◌-◌, ◌<◌, ◌≤◌, List, [], ◌∷◌, ◌++◌, Bool, true, false, cond, inl, inr, Some, None, Ok, Err, Result, IsErrAnd, IfErr, refl, ap, sym, ◌∙◌, subst, arith}
 use Rattle.cas_model.specs.declared.digest.Digest.{Digest}
 use Rattle.cas_model.specs.declared.note.Note.{Note}
 use Rattle.cas_model.specs.declared.place.Full.{Full as Refusal}

@@ -1,5 +1,5 @@
 -- What a plain port keeps goes with its run, event by event.
-use Rattle.std.proofs.Common.{◌≡◌, ℕ, zero, suc, ◌+◌, ◌*◌, ◌-◌, ◌/◌, ◌<◌, ◌≤◌, List, [], ◌∷◌, Bool, true, false, cond, ◌==◌, ◌⊎◌, inl, inr, Some, None, is_some, IsSome, length, map, replicate, unwrap_or, refl, ap, sym, ◌∙◌, subst, arith}
+use Rattle.std.proofs.Common.{◌≡◌, ℕ, zero, suc, ◌+◌, ◌*◌, ◌<◌, ◌≤◌, List, [], ◌∷◌, false, inl, inr, Some, None, is_some, IsSome, length, refl, ap, sym, ◌∙◌, subst, arith}
 use Rattle.std.specs.declared.option.Option.{Option}
 use Rattle.cas_model.specs.declared.call.Who.{Who}
 use Rattle.cas_model.specs.declared.digest.Digest.{Digest}
@@ -13,11 +13,10 @@ use Rattle.cas_model.specs.declared.tables.Record.{Record}
 use Rattle.cas_model.specs.Start.{IsRecord, CellNames}
 use Rattle.cas_model.specs.State.{State}
 use Rattle.cas_model.specs.Tables.{Tables, place_of, record_at, words_at, cell_of}
-use Rattle.cas_history.specs.declared.event.Act.{Act}
 use Rattle.cas_history.specs.declared.event.Act.TheVariants.{Look, Bind, Read, Claim, Room, Fill}
 use Rattle.cas_history.specs.declared.event.Event.{Event}
 use Rattle.cas_history.specs.Lawful.{IsLawfulRun, IsFreeBlock, MayBind, MayFillAt, MayFill, IsObjectRule, IsActionRule}
-use Rattle.cas_history.specs.Run.{tables, claimed_by, bound_by, filled_by, published}
+use Rattle.cas_history.specs.Run.{tables, claimed_by, bound_by, filled_by}
 use Rattle.cas_history.proofs.Blocks.{run-named-fits}
 use Rattle.cas_history.proofs.Placed.{placed-run, lawful-start, between-least, claim-within}
 use Rattle.cas_history.proofs.Sound.{sound-run, content-some}
@@ -217,7 +216,7 @@ module _ (up : State) (r : PlainRows) (opened : List OpenBlock) (seen : List Eve
   tied-bind =
       let before = bind-claims-tied up r opened seen note k t fits in
       let opens = opens-bind claimed row opened r.counter (omega arith)
-          (opens-claims r.start (event_of note (Claim 5) ∷ seen) note k opened r.counter (opens-claim (tables r.start seen) note.who 5 opened r.counter t.opens)) in
+      (opens-claims r.start (event_of note (Claim 5) ∷ seen) note k opened r.counter (opens-claim (tables r.start seen) note.who 5 opened r.counter t.opens)) in
       record {
         ties = subst (λ (s : Tables). Ties s (record r { counter = r.counter + (5 + 16 * k); bound = row ∷ r.bound })) (sym bound-now) (record {
           size_is = before.ties.size_is;

@@ -11,7 +11,7 @@ use Rattle.cas_model.specs.declared.tables.Cell.{Cell}
 use Rattle.cas_model.specs.declared.tables.Content.{Content}
 use Rattle.cas_model.specs.declared.tables.Record.{Record}
 use Rattle.cas_model.specs.Content.{bytes_of, content_places}
-use Rattle.cas_model.specs.Tables.{record_at, words_at, digest_at, digests_at, same_space, object_of}
+use Rattle.cas_model.specs.Tables.{record_at, words_at, digest_at, digests_at, same_space}
 use Rattle.cell_port.specs.FilledRows.{AreBound, AreReadable, AreFilledIn, RowNames, AreRows, filled_objects, row_object, object_with}
 
 pub bytes-more : (ws : List ℕ) (i : ℕ) → i < length ws → bytes_of (take (i + 1) ws) ≡ bytes_of (take i ws) ++ to_le_bytes w64 (get_or ws i 0)

@@ -1,9 +1,7 @@
 -- The rows of filled cells go on naming what they name.
-use Rattle.std.proofs.Common.{◌≡◌, ℕ, zero, suc, ◌+◌, ◌<◌, List, [], ◌∷◌, Bool, true, false, cond, ◌==◌, Some, None, refl, ap, sym, ◌∙◌, subst}
-use Rattle.std.specs.declared.option.Option.{Option}
+use Rattle.std.proofs.Common.{◌≡◌, ℕ, zero, suc, ◌<◌, List, [], ◌∷◌, Bool, true, false, cond, ◌==◌, Some, None, refl, ap, sym, ◌∙◌, subst}
 use Rattle.std.proofs.lemmas.Bool.{eqb-true, eq-eqb}
 use Rattle.cas_model.specs.declared.digest.Digest.{Digest}
-use Rattle.cas_model.specs.declared.object.Object.{Object}
 use Rattle.cas_model.specs.declared.place.Place.{Place}
 use Rattle.cas_model.specs.declared.place.Space.{Space}
 use Rattle.cas_model.specs.declared.place.Space.TheVariants.{Objects, Actions}
@@ -15,7 +13,7 @@ use Rattle.cas_model.specs.Object.{object_digest}
 use Rattle.cas_model.specs.Start.{IsFilled, RefsBelow, IsContentFor}
 use Rattle.cas_model.specs.Tables.{Tables, record_at, words_at, cell_of, digest_at, digests_at, digest_of_record, object_of}
 use Rattle.cas_history.specs.Run.{published}
-use Rattle.cell_port.specs.FilledRows.{IsFilledIn, AreFilledIn, NamesObject, RowNames, IsRow, AreRows}
+use Rattle.cell_port.specs.FilledRows.{IsFilledIn, AreFilledIn, RowNames, AreRows}
 use Rattle.cell_port.specs.Plain.{rows_filled, Ties}
 use Rattle.cell_port.specs.Tables.{PlainRows}
 
@@ -73,13 +71,16 @@ module _ (bound new : List Record) (records : RecordsStay bound new) where
 
   pub rows-grow : (blocks more : List Content) → ContentsStay blocks more → (cells : List Cell) → AreRows bound blocks cells → AreRows new more cells
   rows-grow blocks more contents [] rows = tt
-  rows-grow blocks more contents (c ∷ cs) rows = (record {
-    empty = rows.0.empty;
-    some = rows.0.some;
-    found = rows.0.found;
-    is = records.stay c.of.at rows.0.found rows.0.is;
-    names = names-grow cs blocks more contents rows.0.found.space rows.0.found.digest c.value rows.0.names;
-  }, rows-grow blocks more contents cs rows.1)
+  rows-grow blocks more contents (c ∷ cs) rows = (
+    record {
+      empty = rows.0.empty;
+      some = rows.0.some;
+      found = rows.0.found;
+      is = records.stay c.of.at rows.0.found rows.0.is;
+      names = names-grow cs blocks more contents rows.0.found.space rows.0.found.digest c.value rows.0.names;
+    },
+    rows-grow blocks more contents cs rows.1,
+  )
 
 -- ---- the moves of a plain port
 
@@ -111,32 +112,38 @@ module _ (s : Tables) (r : PlainRows) (t : Ties s r) where
       → words_at s.blocks value ≡ None → 0 < value → (words ≡ [] → ⊥) → IsContentFor s found.digest value words → AreRows r.bound r.blocks r.filled
       → AreRows (rows_filled had r cell value words).bound (rows_filled had r cell value words).blocks (rows_filled had r cell value words).filled
   rows-object (suc had) cell value words found is at object none some many for rows = rows
-  rows-object zero cell value words found is at object none some many for rows = (record {
-    empty = is;
-    some = some;
-    found = found;
-    is = record-here cell.at found at;
-    names = subst (λ (space : Space). RowNames r.bound (published value words r.blocks) r.filled space found.digest value) (sym object) (
-      words,
-      there-now value words r.blocks many,
-      record {
-        content = for.content;
-        refs = refs-here value (content_places words) for.refs;
-        named = ap (λ (rs : List Record). object_digest (object_of rs words)) (sym t.bound_is) ∙ for.named;
-      },
-    );
-  }, rows-grow r.bound r.bound (records-same r.bound) r.blocks (published value words r.blocks)
-      (contents-more value words r.blocks (ap (λ (bs : List Content). words_at bs value) (sym t.blocks_is) ∙ none)) r.filled rows)
+  rows-object zero cell value words found is at object none some many for rows = (
+    record {
+      empty = is;
+      some = some;
+      found = found;
+      is = record-here cell.at found at;
+      names = subst (λ (space : Space). RowNames r.bound (published value words r.blocks) r.filled space found.digest value) (sym object) (
+        words,
+        there-now value words r.blocks many,
+        record {
+          content = for.content;
+          refs = refs-here value (content_places words) for.refs;
+          named = ap (λ (rs : List Record). object_digest (object_of rs words)) (sym t.bound_is) ∙ for.named;
+        },
+      );
+    },
+    rows-grow r.bound r.bound (records-same r.bound) r.blocks (published value words r.blocks)
+        (contents-more value words r.blocks (ap (λ (bs : List Content). words_at bs value) (sym t.blocks_is) ∙ none)) r.filled rows,
+  )
 
   -- one more row of an action
   pub rows-action : (had : ℕ) (cell : Place) (value : ℕ) (found : Record) → cell_of r.filled cell.at ≡ had → record_at s.bound cell.at ≡ Some found → found.space ≡ Actions
       → 0 < value → IsFilled s value → AreRows r.bound r.blocks r.filled
       → AreRows (rows_filled had r cell value []).bound (rows_filled had r cell value []).blocks (rows_filled had r cell value []).filled
   rows-action (suc had) cell value found is at action some object rows = rows
-  rows-action zero cell value found is at action some object rows = (record {
-    empty = is;
-    some = some;
-    found = found;
-    is = record-here cell.at found at;
-    names = subst (λ (space : Space). RowNames r.bound r.blocks r.filled space found.digest value) (sym action) (filled-here value object);
-  }, rows)
+  rows-action zero cell value found is at action some object rows = (
+    record {
+      empty = is;
+      some = some;
+      found = found;
+      is = record-here cell.at found at;
+      names = subst (λ (space : Space). RowNames r.bound r.blocks r.filled space found.digest value) (sym action) (filled-here value object);
+    },
+    rows,
+  )

@@ -1,5 +1,5 @@
 -- What each call of a port asks, and what it leaves.
-use Rattle.std.specs.Prelude.{◌≡◌, ℕ, ◌+◌, ◌-◌, ◌*◌, ◌<◌, ◌≤◌, List, [], ◌∷◌, ◌++◌, Bool, true, false, cond, ◌==◌, ◌⊎◌, Some, None, IsTrue, IsSome, length, drop, slice_index}
+use Rattle.std.specs.Prelude.{◌≡◌, ℕ, ◌+◌, ◌-◌, ◌*◌, ◌<◌, ◌≤◌, List, [], ◌∷◌, ◌++◌, Bool, true, false, cond, ◌==◌, ◌⊎◌, Some, IsTrue, IsSome, length, drop, slice_index}
 use Rattle.std.specs.declared.option.Option.{Option}
 use Rattle.std.specs.Int.{w64, from_be_bytes}
 use Rattle.cas_model.specs.declared.digest.Digest.{Digest}
@@ -8,7 +8,7 @@ use Rattle.cas_model.specs.declared.place.Place.{Place}
 use Rattle.cas_model.specs.declared.place.Space.{Space}
 use Rattle.cas_model.specs.declared.place.Space.TheVariants.{Objects, Actions}
 use Rattle.cas_model.specs.declared.tables.Record.{Record}
-use Rattle.cas_model.specs.Tables.{Tables, place_of, record_at, words_at, cell_of}
+use Rattle.cas_model.specs.Tables.{place_of, record_at, words_at, cell_of}
 use Rattle.cas_history.specs.declared.event.Act.{Act}
 use Rattle.cas_history.specs.declared.event.Act.TheVariants.{Look, Bind, Read, Claim, Room, Fill}
 use Rattle.cas_history.specs.declared.event.Event.{Event}

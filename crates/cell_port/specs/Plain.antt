@@ -8,7 +8,7 @@ use Rattle.cas_model.specs.declared.place.Place.{Place}
 use Rattle.cas_model.specs.declared.place.Space.{Space}
 use Rattle.cas_model.specs.State.{State, empty_state}
 use Rattle.cas_model.specs.Tables.{Tables}
-use Rattle.cas_history.specs.declared.event.Act.TheVariants.{Bind, Claim, Room, Fill}
+use Rattle.cas_history.specs.declared.event.Act.TheVariants.{Bind, Claim, Room}
 use Rattle.cas_history.specs.declared.event.Event.{Event}
 use Rattle.cas_history.specs.Lawful.{IsLawfulRun, IsFreeBlock}
 use Rattle.cas_history.specs.Run.{tables, published}

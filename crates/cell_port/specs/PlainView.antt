@@ -1,5 +1,5 @@
 -- A plain port as a port.
-use Rattle.std.specs.Prelude.{ℕ, List, true}
+use Rattle.std.specs.Prelude.{List, true}
 use Rattle.cas_model.specs.State.{State}
 use Rattle.cas_model.specs.Tables.{Tables}
 use Rattle.cas_history.specs.declared.event.Event.{Event}

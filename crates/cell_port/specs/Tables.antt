@@ -1,11 +1,9 @@
 -- What a plain port keeps: the tables of its start, and the rows that stand now, the newest first.
 use Rattle.std.specs.Prelude.{ℕ, suc, List, [], ◌∷◌, cond, ◌==◌}
-use Rattle.cas_model.specs.declared.digest.Digest.{Digest}
-use Rattle.cas_model.specs.declared.place.Space.{Space}
 use Rattle.cas_model.specs.declared.tables.Cell.{Cell}
 use Rattle.cas_model.specs.declared.tables.Content.{Content}
 use Rattle.cas_model.specs.declared.tables.Record.{Record}
-use Rattle.cas_model.specs.Tables.{Tables, same_space, empty_start}
+use Rattle.cas_model.specs.Tables.{Tables, empty_start}
 use Rattle.cell_port.specs.declared.block.OpenBlock.{OpenBlock}
 
 -- the rows at the start, and now. Places and the counter are in words

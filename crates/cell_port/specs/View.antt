@@ -1,5 +1,5 @@
 -- What contracts see of a port.
-use Rattle.std.specs.Prelude.{◌≡◌, ℕ, List, [], ◌∷◌, ◌++◌, Bool, true, false, cond, ◌==◌, Some, None, IsTrue, length, map, unwrap_or, slice_set}
+use Rattle.std.specs.Prelude.{◌≡◌, ℕ, List, [], ◌∷◌, Bool, true, false, cond, ◌==◌, Some, None, length, map, unwrap_or, slice_set}
 use Rattle.std.specs.declared.option.Option.{Option}
 use Rattle.cas_model.specs.State.{State}
 use Rattle.cas_model.specs.Tables.{Tables}

@@ -13,7 +13,9 @@ ghost use Rattle.cas_model.specs.declared.place.Space.TheVariants.{Objects, Acti
 use crate::PortError;
 use crate::moves::bind_new;
 use crate::tables::PlainTables;
-use cas_model::{Contents, Digest, Full, Note, Object, Pair, Space, Stage, Who, Words, data_word, head_word};
+use cas_model::{
+    Contents, Digest, Full, Note, Object, Pair, Space, Stage, Who, Words, data_word, head_word,
+};
 use std::alloc::{AllocError, Global};
 use std::collections::VecDeque;
 

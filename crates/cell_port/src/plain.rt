@@ -272,7 +272,12 @@ impl<'u, U: Upstream> CellPort for PlainPort<'u, U> {
         Ok(filled)
     }
 
-    fn fill_place(&mut self, note: Note, record_: Place, value: Place) -> Result<Filled, AllocError> {
+    fn fill_place(
+        &mut self,
+        note: Note,
+        record_: Place,
+        value: Place,
+    ) -> Result<Filled, AllocError> {
         let filled = fill_cell(
             self.alloc,
             &mut self.tables,
@@ -285,7 +290,9 @@ impl<'u, U: Upstream> CellPort for PlainPort<'u, U> {
     }
 
     fn word(&mut self, place: Place, index: u64) -> u64 {
-        if index < 4 && let Some(record_) = self.tables.record_at(place) {
+        if index < 4
+            && let Some(record_) = self.tables.record_at(place)
+        {
             return digest_word(&record_.digest, index);
         }
         match self.tables.words_at(place.at) {

@@ -118,7 +118,5 @@ pub fn take_open(opened: &mut VecDeque<OpenBlock>, place: u64) -> Option<OpenBlo
 pub fn whole_words(alloc: Global, words: &Written) -> Result<Words, AllocError>
     ensures { IfOk result (λ list. list ≡ written_words words.now) }
 {
-    Ok(Words::of(
-        words.list().iter().map(|w| w.unwrap_or(0)).collect(alloc)?,
-    ))
+    Ok(Words::of(words.list().iter().map(|w| w.unwrap_or(0)).collect(alloc)?))
 }

@@ -34,11 +34,11 @@ impl Model for PlainTables {
     ghost Value = { PlainRows };
 
     ghost view = { λ t. record {
-        start = record { size = t.size; counter = t.began; given = t.began; bound = t.old_records.items; filled = t.old_cells.items; blocks = t.old_contents.items; claims = [] };
-        counter = t.counter;
-        bound = t.records.items ++ t.old_records.items;
-        filled = t.cells.items ++ t.old_cells.items;
-        blocks = t.contents.items ++ t.old_contents.items;
+      start = record { size = t.size; counter = t.began; given = t.began; bound = t.old_records.items; filled = t.old_cells.items; blocks = t.old_contents.items; claims = [] };
+      counter = t.counter;
+      bound = t.records.items ++ t.old_records.items;
+      filled = t.cells.items ++ t.old_cells.items;
+      blocks = t.contents.items ++ t.old_contents.items;
     } };
 
     ghost invariant = { λ t. (t.counter ≤ t.size) × (t.size ≤ 67108864) };
@@ -167,8 +167,8 @@ impl PlainTables {
     /// Fills a cell with the place of a content, and publishes its words.
     pub fn publish(&mut self, of: Place, value: u64, words: Words) -> Result<(), AllocError>
         ensures ok { OnOk result (self.new ≡ record self.old {
-            filled = (record { of = of; value = value }) ∷ self.old.filled;
-            blocks = (record { place = value; words = words }) ∷ self.old.blocks;
+          filled = (record { of = of; value = value }) ∷ self.old.filled;
+          blocks = (record { place = value; words = words }) ∷ self.old.blocks;
         }) }
         ensures err { OnErr result (self.new ≡ self.old) }
     {

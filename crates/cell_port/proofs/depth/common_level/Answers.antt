@@ -1,4 +1,4 @@
-use Rattle.std.proofs.Common.{◌≤◌, arith}
+use Rattle.std.proofs.Common.{arith}
 use Rattle.cell_port.proofs.Depths.{level-found, parts-at}
 use Rattle.cell_port.proofs.depth.common_level.Goals as goal
 

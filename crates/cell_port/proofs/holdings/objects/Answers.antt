@@ -1,4 +1,4 @@
-use Rattle.std.proofs.Common.{◌≡◌, ℕ, ◌+◌, ◌-◌, ◌++◌, List, reverse, drop, ap, sym, ◌∙◌, arith}
+use Rattle.std.proofs.Common.{◌≡◌, ℕ, ◌+◌, ◌-◌, ◌++◌, List, reverse, drop, ap, ◌∙◌, arith}
 use Rattle.cas_model.specs.declared.object.Object.{Object}
 use Rattle.cas_model.specs.Tables.{record_at}
 use Rattle.cell_port.specs.FilledRows.{filled_objects, row_object}
@@ -13,8 +13,7 @@ loop-i-preserved c =
     let within = c.loop-i.invariant.0 in
     let next : c.loop-i.i ≡ c.loop-i.i - 1 + 1 = omega (arith, c.loop-i-test.true) in
     let b = c.args.tables.now.bound in
-    let k = c.args.tables.now.blocks in
-    (
+    let k = c.args.tables.now.blocks in (
       omega arith,
       c.in_ok-add_object.ensures
           ∙ ap (λ (os : List Object). os ++ row_object b k (record_at b c.cell.result.of.at) c.cell.result.value)

@@ -1,4 +1,4 @@
-use Rattle.std.proofs.Common.{List, ◌++◌, sym, ◌∙◌}
+use Rattle.std.proofs.Common.{◌++◌, sym, ◌∙◌}
 use Rattle.cell_port.proofs.ReadBack.{bytes-more}
 use Rattle.cell_port.proofs.holdings.read_data.Goals as goal
 

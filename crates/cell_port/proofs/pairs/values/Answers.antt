@@ -8,7 +8,6 @@ use Rattle.std.specs.Ordering.{nat_cmp}
 use Rattle.cas_model.specs.State.{digest_cmp}
 use Rattle.cas_model.specs.declared.tables.Cell.{Cell}
 use Rattle.cas_model.specs.Contents.{actions_map}
-use Rattle.cas_model.specs.declared.digest.Digest.{Digest}
 use Rattle.cas_model.specs.Tables.{record_at}
 use Rattle.cell_port.specs.FilledRows.{filled_pairs, row_pair, value_over}
 use Rattle.cell_port.proofs.PairRows.{row-value, pairs-more}
@@ -16,8 +15,7 @@ use Rattle.cell_port.proofs.pairs.values.Goals as goal
 
 pub loop-i-init : goal.loop-i-init
 loop-i-init c =
-    let none : drop c.cell_count-i.result c.args.tables.now.filled ≡ [] = ap (λ (n : ℕ). drop n c.args.tables.now.filled) c.cell_count-i.ensures ∙ drop-length c.args.tables.now.filled in
-    (
+    let none : drop c.cell_count-i.result c.args.tables.now.filled ≡ [] = ap (λ (n : ℕ). drop n c.args.tables.now.filled) c.cell_count-i.ensures ∙ drop-length c.args.tables.now.filled in (
       omega (arith, c.cell_count-i.ensures),
       λ q. ap (lookup (is_at (slice_cmp nat_cmp q.bytes))) c.new-values.ensures.empty
           ∙ sym (fin.get-empty digest_cmp q)
@@ -32,8 +30,7 @@ loop-i-preserved c =
     let within = c.loop-i.invariant.0 in
     let next : c.loop-i.i ≡ c.loop-i.i - 1 + 1 = omega (arith, c.loop-i-test.true) in
     let b = c.args.tables.now.bound in
-    let row = row_pair b (record_at b c.cell.result.of.at) c.cell.result.value in
-    (
+    let row = row_pair b (record_at b c.cell.result.of.at) c.cell.result.value in (
       omega arith,
       λ q. c.in_ok-add_pair.ensures q
           ∙ ap (λ o. value_over row o q) (c.loop-i.invariant.1 q ∙ ap (λ (n : ℕ). fin.get (actions_map (filled_pairs b (drop n c.args.tables.now.filled))) q) next)

@@ -1,4 +1,4 @@
-use Rattle.std.proofs.Common.{◌≡◌, ℕ, ◌+◌, ◌/◌, ◌<◌, ◌≤◌, List, ◌∷◌, ◌++◌, [], length, take, ap, sym, ◌∙◌, arith}
+use Rattle.std.proofs.Common.{ℕ, ◌+◌, ◌/◌, ◌<◌, ◌≤◌, List, ◌∷◌, ◌++◌, [], length, ap, sym, ◌∙◌, arith}
 use Rattle.cas_model.specs.Content.{content_head, data_words}
 use Rattle.cas_model.specs.Tables.{no_digest}
 use Rattle.cell_port.specs.Parts.{places_of}

@@ -1,6 +1,4 @@
-use Rattle.std.proofs.Common.{◌≡◌, ◌<◌, ◌≤◌, length, arith, vec_len, sym}
-use Rattle.cas_model.specs.declared.object.Object.{Object}
-use Rattle.cell_port.specs.Parts.{StoresObjects}
+use Rattle.std.proofs.Common.{◌≡◌, ◌<◌, length, arith}
 use Rattle.cell_port.proofs.PartsLoops.{stores-none, is-next, stores-more, object-refuses, puts-none, key-unbound, puts-more, action-refuses}
 use Rattle.cell_port.proofs.PlainBinds.{err-made}
 use Rattle.cell_port.proofs.parts.store_contents.Goals as goal

@@ -1,4 +1,4 @@
-use Rattle.std.proofs.Common.{◌≡◌, ◌≤◌, arith, ap, ◌∙◌}
+use Rattle.std.proofs.Common.{◌≡◌, arith, ap, ◌∙◌}
 use Rattle.cell_port.specs.declared.subtries.Deepest.{Deepest}
 use Rattle.cell_port.specs.Depth.{deepest_in}
 use Rattle.cell_port.proofs.Depths.{deepest-append, needed-is}
