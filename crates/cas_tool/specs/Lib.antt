@@ -1,0 +1,5 @@
+pub mod Words
+pub mod Answer
+pub mod Reading
+pub mod Writing
+pub mod Run
