@@ -3,9 +3,7 @@ use Rattle.std.specs.Prelude.{ℕ, List, [], ◌∷◌, ◌++◌, codes}
 use Rattle.std.specs.Fmt.{decimal}
 use Rattle.cas_tool.specs.declared.answer.Answer.{Answer}
 use Rattle.cas_tool.specs.declared.answer.Answer.TheVariants.{Done, Usage, ReadFault, WriteFault, TooLarge, NoMemory}
-use Rattle.cas_tool.specs.declared.answer.Large.{Large}
 use Rattle.cas_tool.specs.declared.answer.Large.TheVariants.{Data}
-use Rattle.cas_tool.specs.declared.answer.UsageKind.{UsageKind}
 use Rattle.cas_tool.specs.declared.answer.UsageKind.TheVariants.{Words}
 
 abbrev pub status_of : Answer → ℕ
