@@ -13,3 +13,4 @@ pub mod Promised
 pub mod Others
 pub mod Indexes
 pub mod Changed
+pub mod Firsts
