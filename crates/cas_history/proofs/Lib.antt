@@ -14,3 +14,4 @@ pub mod Others
 pub mod Indexes
 pub mod Changed
 pub mod Firsts
+pub mod Checked

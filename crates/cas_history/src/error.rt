@@ -10,7 +10,10 @@ pub enum ReplayError {
     Memory,
     /// A claim would move the counter past the greatest number of 64 bits.
     TooFar,
-    /// What the event decides names the record at this place, and there is none. No lawful run has this.
+    /// The event may not happen after those before it, or its fill is not lawful for the upstream.
+    Unlawful,
+    /// What the event decides names the record at this place, and there is none. No run whose sessions have conduct
+    /// has this.
     Unbound(u64),
 }
 

@@ -5,6 +5,7 @@ mod below;
 mod entry;
 mod error;
 mod event;
+mod lawful;
 mod laws;
 mod reading;
 mod replay;

@@ -1,9 +1,9 @@
 // Reading the objects that tables name.
-ghost use Rattle.std.specs.Prelude.{◌≡◌, ◌<◌, ◌++◌, ◌∷◌, IfOk, IfErr, MatchOption, None, Some, length};
+ghost use Rattle.std.specs.Prelude.{◌≡◌, IfOk, IfErr, MatchOption, None, Some, IsSome};
 ghost use Rattle.cas_model.specs.Content.{content_places, content_bytes, bytes_of};
 ghost use Rattle.cas_model.specs.Primary.{object_in};
 ghost use Rattle.cas_model.specs.Tables.{record_at, digest_at, digests_at, object_of, words_at};
-ghost use Rattle.cas_history.specs.Replays.{IsNoRecord};
+ghost use Rattle.cas_history.specs.Replays.{IsNoRecord, AreRecords};
 
 use crate::{ReplayError, Rows};
 use cas_model::{Content, Data, Digest, Object, Refs, split_head};
@@ -28,10 +28,27 @@ impl Rows {
         find_words(self.blocks(), place)
     }
 
-    /// The object that the words of a content describe.
-    pub fn object_of(&self, alloc: Global, words: &[u64]) -> Result<Object, ReplayError>
-        ensures ok { IfOk result (λ o. o ≡ object_of self.now.bound words.now) }
+    /// The object whose content is at a place. At the place 0 there is none.
+    pub fn object_in(&self, alloc: Global, place: u64) -> Result<Option<Object>, ReplayError>
+        ensures ok { IfOk result (λ o. o ≡ object_in self.now place) }
         ensures err { IfErr result (λ error. IsNoRecord self.now error) }
+    {
+        if place == 0 {
+            return Ok(None);
+        }
+        let Some(words) = self.words_at(place) else {
+            return Ok(None);
+        };
+        match self.first_unbound(places_of(words)) {
+            Some(unbound) => Err(ReplayError::Unbound(unbound)),
+            None => Ok(Some(self.object_of(alloc, words)?)),
+        }
+    }
+
+    /// The object that the words of a content describe.
+    pub fn object_of(&self, alloc: Global, words: &[u64]) -> Result<Object, AllocError>
+        requires { AreRecords self.now (content_places words.now) }
+        ensures { IfOk result (λ o. o ≡ object_of self.now.bound words.now) }
     {
         let refs = self.digests_at(alloc, places_of(words))?;
         let data = bytes_of_content(alloc, words)?;
@@ -41,31 +58,35 @@ impl Rows {
         })
     }
 
-    /// The object whose content is at a place. At the place 0 there is none.
-    pub fn object_in(&self, alloc: Global, place: u64) -> Result<Option<Object>, ReplayError>
-        ensures ok { IfOk result (λ o. o ≡ object_in self.now place) }
-        ensures err { IfErr result (λ error. IsNoRecord self.now error) }
+    // The first of these places that has no record.
+    fn first_unbound(&self, places: &[u64]) -> Option<u64>
+        ensures { MatchOption result (AreRecords self.now places.now) (λ place. record_at self.now.bound place ≡ None) }
     {
-        if place == 0 {
-            return Ok(None);
+        for place in places {
+            if self.record_at(*place).is_none() {
+                return Some(*place);
+            }
         }
-        match self.words_at(place) {
-            Some(words) => Ok(Some(self.object_of(alloc, words)?)),
-            None => Ok(None),
-        }
+        None
     }
 
     // The digests of the records at these places.
-    fn digests_at(&self, alloc: Global, places: &[u64]) -> Result<Vec<Digest>, ReplayError>
-        ensures ok { IfOk result (λ digests. digests.items ≡ digests_at self.now.bound places.now) }
-        ensures err { IfErr result (λ error. IsNoRecord self.now error) }
+    fn digests_at(&self, alloc: Global, places: &[u64]) -> Result<Vec<Digest>, AllocError>
+        requires { AreRecords self.now places.now }
+        ensures { IfOk result (λ digests. digests.items ≡ digests_at self.now.bound places.now) }
     {
         let mut digests = Vec::new(alloc);
         for place in places {
-            let digest = self.digest_at(*place)?;
-            digests.push(digest)?;
+            digests.push(self.digest_there(*place))?;
         }
         Ok(digests)
+    }
+
+    fn digest_there(&self, place: u64) -> Digest
+        requires { IsSome (record_at self.now.bound place) }
+        ensures { result ≡ digest_at self.now.bound place }
+    {
+        self.record_at(place).unwrap().digest
     }
 }
 

@@ -1,7 +1,9 @@
 // A run that is replayed event by event: its tables and its history.
-ghost use Rattle.std.specs.Prelude.{◌≡◌, ◌++◌, List, [], IfOk, IfErr, option_to_list, reverse};
+ghost use Rattle.std.specs.Prelude.{◌≡◌, ◌++◌, List, [], IfOk, IfErr, OnOk, option_to_list, reverse};
+ghost use Rattle.cas_model.specs.Start.{IsLawfulStart};
 ghost use Rattle.cas_model.specs.Step.{Entry as Answered};
 ghost use Rattle.cas_history.specs.History.{dangling, is_absent, loaded, got, kept, decided, decided_at, with_event, history};
+ghost use Rattle.cas_history.specs.Lawful.{MayHappen, IsLawfulRun};
 ghost use Rattle.cas_history.specs.Replays.{calls_in, state_of, IsNoRecord, IsStopped};
 ghost use Rattle.cas_history.specs.Run.{after, tables};
 
@@ -10,7 +12,7 @@ use crate::entry::{call_of, copy_call};
 use crate::rows::put_front;
 use crate::{Act, Asked, Entry, Event, ReplayError, Rows};
 use cas_model::{Call, Contents, Digest, Reply, Stage};
-use std::alloc::Global;
+use std::alloc::{AllocError, Global};
 use std::marker::Model;
 
 /// A run that is replayed event by event, for tests: plain and slow. It says what the tables are after the events,
@@ -25,7 +27,8 @@ pub struct Replay {
 }
 
 impl Model for Replay {
-    ghost use Rattle.cas_history.specs.Replays.{Replayed};
+    ghost use Rattle.cas_history.specs.Lawful.{MayHappen, IsLawfulRun};
+ghost use Rattle.cas_history.specs.Replays.{Replayed};
 
     ghost Value = { Replayed };
 
@@ -59,6 +62,7 @@ impl Replay {
         ensures entries { IfOk result (λ r. r.entries ≡ history (state_of upstream) start (calls_in calls.items) (reverse events.items)) }
         ensures upstream { IfOk result (λ r. r.upstream ≡ upstream) }
         ensures calls { IfOk result (λ r. r.calls ≡ calls.items) }
+        ensures lawful { IsLawfulStart start → OnOk result (IsLawfulRun (state_of upstream) start (reverse events.items)) }
     {
         let mut replay = Replay::new(alloc, start, upstream, calls);
         for event in events {
@@ -87,26 +91,26 @@ impl Replay {
         ensures entries { IfOk result (λ new. new.entries ≡ with_event (state_of self.upstream) self.tables (calls_in self.calls event.note.who) event self.entries) }
         ensures upstream { IfOk result (λ new. new.upstream ≡ self.upstream) }
         ensures calls { IfOk result (λ new. new.calls ≡ self.calls) }
-        ensures err { IfErr result (λ error. IsStopped self.tables event.act error) }
+        ensures may { OnOk result (MayHappen (state_of self.upstream) self.tables event.note.who event.act) }
+        ensures err { IfErr result (λ error. IsStopped (state_of self.upstream) self.tables event error) }
     {
+        if !self.rows.may_happen(self.alloc, &self.upstream, event.note.who, &event.act)? {
+            return Err(ReplayError::Unlawful);
+        }
         let decided = self.entry_of(&event)?;
         let Replay {
             alloc,
             upstream,
             calls,
             rows,
-            mut entries,
+            entries,
         } = self;
-        let rows = rows.after(event)?;
-        if let Some(entry) = decided {
-            put_front(&mut entries, entry)?;
-        }
         Ok(Replay {
             alloc,
             upstream,
             calls,
-            rows,
-            entries,
+            rows: rows.after(event)?,
+            entries: with_entry(entries, decided)?,
         })
     }
 
@@ -228,4 +232,14 @@ impl Replay {
         let digest = self.rows.digest_at(cell)?;
         Ok(Some(Reply::Hit(digest)))
     }
+}
+
+// The entries with one more before them, where there is one.
+fn with_entry(mut entries: Vec<Entry>, more: Option<Entry>) -> Result<Vec<Entry>, AllocError>
+    ensures { IfOk result (λ list. list.items ≡ option_to_list more ++ entries.items) }
+{
+    if let Some(entry) = more {
+        put_front(&mut entries, entry)?;
+    }
+    Ok(entries)
 }

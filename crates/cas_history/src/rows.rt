@@ -2,7 +2,8 @@
 ghost use Rattle.std.specs.Prelude.{◌≡◌, ◌+◌, ◌∷◌, cond, IfOk, IfErr, OnOk};
 ghost use Rattle.cas_model.specs.Tables.{empty_start, same_space, place_of, record_at, cell_of};
 ghost use Rattle.cas_history.specs.Answers.{answer};
-ghost use Rattle.cas_history.specs.Replays.{IsStopped};
+ghost use Rattle.cas_history.specs.End.{ended};
+ghost use Rattle.cas_history.specs.Replays.{IsTooFar};
 ghost use Rattle.cas_history.specs.Run.{after, bound_by, filled_by, claimed_by};
 
 use crate::{Act, Answer, Event, ReplayError};
@@ -159,7 +160,7 @@ impl Rows {
     /// The tables after an event.
     pub fn after(self, event: Event) -> Result<Rows, ReplayError>
         ensures ok { IfOk result (λ rows. rows ≡ after self event) }
-        ensures err { IfErr result (λ error. IsStopped self event.act error) }
+        ensures err { IfErr result (λ error. IsTooFar self event.act error) }
     {
         let who = event.note.who;
         match event.act {
@@ -169,6 +170,17 @@ impl Rows {
             Act::Room(words, moved) => self.refused_by(words, moved),
             Act::Fill(cell, value, words) => Ok(self.filled_by(cell, value, words)?),
         }
+    }
+
+    /// The tables at the end of a run, from which another may start.
+    pub fn ended(mut self) -> Rows
+        ensures { result ≡ ended self }
+    {
+        let end = self.counter.min(self.size);
+        self.counter = end;
+        self.given = end;
+        self.claims.clear();
+        self
     }
 
     // Binds a digest, where it is not bound, to a record of the event's own.
@@ -189,7 +201,7 @@ impl Rows {
     // Gives a call the block at the counter.
     fn claimed_by(mut self, who: Who, words: u64) -> Result<Rows, ReplayError>
         ensures ok { IfOk result (λ rows. rows ≡ claimed_by self who words) }
-        ensures err { IfErr result (λ error. IsStopped self (Act.Claim words) error) }
+        ensures err { IfErr result (λ error. IsTooFar self (Act.Claim words) error) }
     {
         let place = self.counter;
         let Some(end) = place.checked_add(words) else {
@@ -209,7 +221,7 @@ impl Rows {
     // A refused claim moves the counter, or leaves it.
     fn refused_by(mut self, words: u64, moved: bool) -> Result<Rows, ReplayError>
         ensures ok { IfOk result (λ rows. rows ≡ record self { counter = cond moved (self.counter + words) self.counter }) }
-        ensures err { IfErr result (λ error. IsStopped self (Act.Room words moved) error) }
+        ensures err { IfErr result (λ error. IsTooFar self (Act.Room words moved) error) }
     {
         if moved {
             let Some(end) = self.counter.checked_add(words) else {
