@@ -15,17 +15,35 @@ use std::alloc::{AllocError, Global};
 
 impl Rows {
     /// Whether an act of a call may happen after these tables, and its fill is lawful for the upstream.
-    pub fn may_happen(&self, alloc: Global, upstream: &Contents, who: Who, act: &Act) -> Result<bool, AllocError>
+    pub fn may_happen(
+        &self,
+        alloc: Global,
+        upstream: &Contents,
+        who: Who,
+        act: &Act,
+    ) -> Result<bool, AllocError>
         ensures { IfOk result (λ may. IsTrue may ↔ MayHappen (state_of upstream.now) self.now who act.now) }
     {
         match act {
             Act::Look(..) => Ok(true),
-            Act::Bind(space, digest, own) => Ok(self.may_bind(who, self.place_of(*space, digest), *own)),
+            Act::Bind(space, digest, own) => Ok(self.may_bind(
+                who,
+                self.place_of(*space, digest),
+                *own,
+            )),
             Act::Read(cell) => Ok(self.record_at(cell.at).is_some()),
             Act::Claim(words) => Ok(*words > 0 && self.has_room(*words)),
             Act::Room(words, _) => Ok(*words > 0 && !self.has_room(*words)),
             Act::Fill(cell, value, words) => match self.record_at(cell.at) {
-                Some(record) => self.may_fill(alloc, upstream, who, record.space, &record.digest, *value, words.list()),
+                Some(record) => self.may_fill(
+                    alloc,
+                    upstream,
+                    who,
+                    record.space,
+                    &record.digest,
+                    *value,
+                    words.list(),
+                ),
                 None => Ok(false),
             },
         }
@@ -131,7 +149,10 @@ impl Rows {
         if !self.is_filled(value) {
             return false;
         }
-        match (value_under(upstream.actions.as_slice(), key), self.record_at(value)) {
+        match (
+            value_under(upstream.actions.as_slice(), key),
+            self.record_at(value),
+        ) {
             (Some(wanted), Some(record)) => record.digest.bytes == wanted.bytes,
             _ => true,
         }

@@ -28,7 +28,7 @@ pub struct Replay {
 
 impl Model for Replay {
     ghost use Rattle.cas_history.specs.Lawful.{MayHappen, IsLawfulRun};
-ghost use Rattle.cas_history.specs.Replays.{Replayed};
+    ghost use Rattle.cas_history.specs.Replays.{Replayed};
 
     ghost Value = { Replayed };
 
@@ -78,6 +78,14 @@ impl Replay {
         &self.rows
     }
 
+    /// Gives up the replay, and keeps its tables.
+    pub fn into_rows(self) -> Rows
+        ensures { result ≡ self.tables }
+    {
+        let Replay { rows, .. } = self;
+        rows
+    }
+
     /// The calls that the events so far have decided, the newest first.
     pub fn history(&self) -> &[Entry]
         ensures { result.now ≡ self.now.entries }
@@ -94,7 +102,10 @@ impl Replay {
         ensures may { OnOk result (MayHappen (state_of self.upstream) self.tables event.note.who event.act) }
         ensures err { IfErr result (λ error. IsStopped (state_of self.upstream) self.tables event error) }
     {
-        if !self.rows.may_happen(self.alloc, &self.upstream, event.note.who, &event.act)? {
+        if !self
+            .rows
+            .may_happen(self.alloc, &self.upstream, event.note.who, &event.act)?
+        {
             return Err(ReplayError::Unlawful);
         }
         let decided = self.entry_of(&event)?;
@@ -177,7 +188,8 @@ impl Replay {
     fn is_absent(&self, act: &Act, digest: &Digest) -> bool
         ensures { result ≡ is_absent (state_of self.now.upstream) self.now.tables act.now digest.now }
     {
-        self.rows.answer(act).is_miss() && object_under(self.upstream.objects.as_slice(), digest).is_none()
+        self.rows.answer(act).is_miss()
+            && object_under(self.upstream.objects.as_slice(), digest).is_none()
     }
 
     fn dangling(&self, index: u32, digest: Option<Digest>, act: &Act) -> Option<Reply>

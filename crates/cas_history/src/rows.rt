@@ -184,7 +184,12 @@ impl Rows {
     }
 
     // Binds a digest, where it is not bound, to a record of the event's own.
-    fn bound_by(mut self, space: Space, digest: Digest, own: Option<Place>) -> Result<Rows, AllocError>
+    fn bound_by(
+        mut self,
+        space: Space,
+        digest: Digest,
+        own: Option<Place>,
+    ) -> Result<Rows, AllocError>
         ensures { IfOk result (λ rows. rows ≡ bound_by self space digest (place_of self.bound space digest) own) }
     {
         if let (None, Some(place)) = (self.place_of(space, &digest), own) {
