@@ -1,0 +1,15 @@
+pub mod Grown
+pub mod RulesLast
+pub mod Sound
+pub mod Placed
+pub mod Blocks
+pub mod Ended
+pub mod Free
+pub mod Answered
+pub mod Under
+pub mod Visible
+pub mod Legal
+pub mod Promised
+pub mod Others
+pub mod Indexes
+pub mod Changed

@@ -8,3 +8,7 @@ pub mod Conduct
 pub mod Cost
 pub mod Script
 pub mod End
+pub mod Changes
+pub mod Laws
+pub mod Theorem
+pub mod Replays
