@@ -1,5 +1,5 @@
 -- The parts of a store and of a load.
-use Rattle.std.specs.Prelude.{◌≡◌, ℕ, zero, suc, ◌+◌, ◌<◌, ◌≤◌, List, [], ◌∷◌, ◌++◌, Bool, true, not, ◌==◌, ◌⊎◌, IsTrue, Some, None, drop, length}
+use Rattle.std.specs.Prelude.{◌≡◌, ℕ, zero, suc, ◌+◌, ◌<◌, ◌≤◌, List, [], ◌∷◌, ◌++◌, Bool, true, not, ◌==◌, ◌⊎◌, IsTrue, Some, None, take, drop, length}
 use Rattle.std.specs.declared.option.Option.{Option}
 use Rattle.cas_model.specs.declared.call.Call.TheVariants.{Store}
 use Rattle.cas_model.specs.declared.call.Reply.TheVariants as reply
@@ -61,6 +61,13 @@ pub record FindsRefs (who : Who) (all : List Digest) (old new : View) : Type 0 w
   pub reads : Reads who old new
   pub ends : (bytes : List ℕ) → Ends who (Store (object_with all bytes)) None old new 0
   pub refs : HasRefs who all new
+
+-- the same of the first references alone
+pub record FindsFirst (who : Who) (all : List Digest) (n : ℕ) (old new : View) : Type 0 where
+  pub reads : Reads who old new
+  pub ends : (bytes : List ℕ) → Ends who (Store (object_with all bytes)) None old new 0
+  pub refs : HasRefs who (take n all) new
+  pub lawful : IsLawfulOrSame old new
 
 -- a store of each object with these references is refused
 abbrev pub IsRefusedFor : Who → List Digest → View → View → StoreError → Type 0

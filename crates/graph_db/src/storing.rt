@@ -166,8 +166,8 @@ fn write_content<L: Ledger, P: CellPort>(
         let place = look_again(port, note, digest, steps)?;
         port.write(block, i as u64 + 1, place.at);
     }
-    for i in 0..length.div_ceil(8) {
-        port.write(block, count + 1 + i, data_word(data, i));
+    for index in 0..length.div_ceil(8) {
+        port.write(block, count + 1 + index, data_word(data, index));
     }
     Ok(())
 }
