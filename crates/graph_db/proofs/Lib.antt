@@ -1,0 +1,4 @@
+pub mod Steps
+pub mod Sought
+pub mod Found
+pub mod Written
