@@ -15,3 +15,5 @@ pub mod Indexes
 pub mod Changed
 pub mod Firsts
 pub mod Checked
+pub mod Stays
+pub mod Costs
