@@ -57,7 +57,7 @@ cell-grows s t d grows some = step (place_of s.bound Objects d) refl where
       let here : cell_under s Objects d ≡ cell_of s.filled p.at = ap (cell_at s.filled) at in
       ap (cell_at t.filled) (grows.places Objects d p at) ∙ grows.cells p.at (omega (arith, here, some)) ∙ sym here
 
-filled-grows : (s t : Tables) (ds : List Digest) → Grows s t → AreFilled s ds → AreFilled t ds
+pub filled-grows : (s t : Tables) (ds : List Digest) → Grows s t → AreFilled s ds → AreFilled t ds
 filled-grows s t [] grows filled = tt
 filled-grows s t (d ∷ ds) grows filled = (let e = cell-grows s t d grows filled.0 in omega (arith, e, filled.0), filled-grows s t ds grows filled.1)
 

@@ -2,3 +2,4 @@ pub mod Steps
 pub mod Sought
 pub mod Found
 pub mod Written
+pub mod Brought

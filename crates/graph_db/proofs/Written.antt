@@ -77,7 +77,7 @@ get_or-words_from (suc n) bytes (suc i) lt =
     let e : 8 + 8 * i ≡ 8 * suc i = omega arith in
     get_or-words_from n (drop 8 bytes) i (omega arith) ∙ ap (from_le_bytes w64) (drop-drop (8 * i) 8 bytes ∙ ap (λ k. drop k bytes) e)
 
-length-places : (s : Tables) (refs : List Digest) → length (places_in s refs) ≡ length refs
+pub length-places : (s : Tables) (refs : List Digest) → length (places_in s refs) ≡ length refs
 length-places s [] = refl
 length-places s (d ∷ ds) = ap suc (length-places s ds)
 
