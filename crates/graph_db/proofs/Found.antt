@@ -136,13 +136,13 @@ seek-stops note digest old new call h may =
           (record { goes = goes; stands = λ calls is opens. h.stands calls call is may opens; cost = let e = h.cost in omega (arith, e) });
     }
 
-not-zero-test : (value : ℕ) → (value ≡ 0 → ⊥) → not (value == 0) ≡ true
+pub not-zero-test : (value : ℕ) → (value ≡ 0 → ⊥) → not (value == 0) ≡ true
 not-zero-test value some = step (value == 0) refl where
   step : (b : Bool) → (value == 0) ≡ b → not b ≡ true
   step true test = absurd (some (eqb-true value 0 test))
   step false test = refl
 
-not-zero-less : (value : ℕ) → (value ≡ 0 → ⊥) → 0 < value
+pub not-zero-less : (value : ℕ) → (value ≡ 0 → ⊥) → 0 < value
 not-zero-less zero some = absurd (some refl)
 not-zero-less (suc n) some = omega arith
 

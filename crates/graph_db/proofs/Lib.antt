@@ -3,3 +3,4 @@ pub mod Sought
 pub mod Found
 pub mod Written
 pub mod Brought
+pub mod Stored

@@ -87,6 +87,7 @@ fn find_refs<L: Ledger, P: CellPort>(
     ensures ok { OnOk result (FindsRefs who refs.now (P.view port.old) (P.view port.new)) }
     ensures err { IfErr result (IsRefusedFor who refs.now (P.view port.old) (P.view port.new)) }
     ensures lawful { IsLawfulOrSame (P.view port.old) (P.view port.new) }
+    ensures asked { OnErr result (IsLawful (P.view port.old) (P.view port.new)) }
 {
     for (index, digest) in refs.iter().enumerate() {
         let note = Note {

@@ -2,8 +2,8 @@ use Rattle.std.proofs.Common.{◌≡◌, Some, [], slice_get, get_or}
 use Rattle.std.proofs.lemmas.Option.{slice_get-get_or}
 use Rattle.cas_model.specs.declared.digest.Digest.{Digest}
 use Rattle.graph_db.specs.declared.error.StoreError.TheVariants.{Memory}
-use Rattle.graph_db.proofs.Found.{finds-none, finds-next, is-dangling, ref-stops}
-use Rattle.graph_db.proofs.Steps.{err-made}
+use Rattle.graph_db.proofs.Found.{finds-none, finds-next, is-dangling, ref-stops, lawful-same-then}
+use Rattle.graph_db.proofs.Steps.{err-made, ends-on}
 use Rattle.graph_db.proofs.storing.find_refs.Goals as goal
 
 pub loop-index-init : goal.loop-index-init
@@ -20,3 +20,9 @@ returns-in_err-seek-clause-err g c =
 pub returns-then-branch-eq0-clause-err : goal.returns-then-branch-eq0-clause-err
 returns-then-branch-eq0-clause-err g c = λ bytes.
     is-dangling _ _ _ _ _ _ _ (slice_get-get_or _ _ _ c.loop-index-test.true) c.loop-index.invariant c.in_ok-seek.ensures.lawful bytes (rw c.if-branch-eq0.true at c.in_ok-seek.ensures.ok)
+
+pub returns-in_err-seek-clause-asked : goal.returns-in_err-seek-clause-asked
+returns-in_err-seek-clause-asked g c = ends-on _ (lawful-same-then _ _ _ c.loop-index.invariant.lawful c.seek.ensures.lawful)
+
+pub returns-then-branch-eq0-clause-asked : goal.returns-then-branch-eq0-clause-asked
+returns-then-branch-eq0-clause-asked g c = lawful-same-then _ _ _ c.loop-index.invariant.lawful c.seek.ensures.lawful
