@@ -59,10 +59,7 @@ pub fn store_blob<G: Gate>(
 }
 
 // Stores an object with no references as the first call. An empty region of the default size has room for each.
-fn store_first(
-    port: &mut PlainPort<'_, NoUpstream>,
-    object: &Object,
-) -> Result<Digest, AllocError>
+fn store_first(port: &mut PlainPort<'_, NoUpstream>, object: &Object) -> Result<Digest, AllocError>
     requires fresh { IsFresh port.old }
     requires no_refs { object.now.refs ≡ [] }
     requires short { length object.now.data ≤ 16777215 }
@@ -72,7 +69,8 @@ fn store_first(
     match store(port, FIRST, object.refs.list(), object.data.list()) {
         Ok(digest) => Ok(digest),
         Err(StoreError::Memory) => Err(AllocError),
-        Err(StoreError::Dangling { .. }) | Err(StoreError::Full(_)) => unreachable!(),
+        Err(StoreError::Dangling { .. }) => unreachable!(),
+        Err(StoreError::Full(_)) => unreachable!(),
     }
 }
 
