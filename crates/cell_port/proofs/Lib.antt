@@ -2,5 +2,8 @@ pub mod Opened
 pub mod RowLists
 pub mod Depths
 pub mod PlainOpens
+pub mod RowsGrow
 pub mod PlainTies
 pub mod PlainBinds
+pub mod ContentWords
+pub mod ClaimLists

@@ -8,6 +8,7 @@ use Rattle.cas_model.specs.declared.place.Place.{Place}
 use Rattle.cas_model.specs.declared.place.Space.{Space}
 use Rattle.cas_model.specs.declared.place.Space.TheVariants.{Objects, Actions}
 use Rattle.cas_model.specs.declared.tables.Cell.{Cell}
+use Rattle.cas_model.specs.declared.tables.Content.{Content}
 use Rattle.cas_model.specs.declared.tables.Record.{Record}
 use Rattle.cas_model.specs.Start.{IsRecord, CellNames}
 use Rattle.cas_model.specs.State.{State}
@@ -18,7 +19,7 @@ use Rattle.cas_history.specs.declared.event.Event.{Event}
 use Rattle.cas_history.specs.Lawful.{IsLawfulRun, IsFreeBlock, MayBind, MayFillAt, MayFill, IsObjectRule, IsActionRule}
 use Rattle.cas_history.specs.Run.{tables, claimed_by, bound_by, filled_by, published}
 use Rattle.cas_history.proofs.Blocks.{run-named-fits}
-use Rattle.cas_history.proofs.Placed.{placed-run, lawful-start, between-least}
+use Rattle.cas_history.proofs.Placed.{placed-run, lawful-start, between-least, claim-within}
 use Rattle.cas_history.proofs.Sound.{sound-run, content-some}
 use Rattle.cell_port.specs.declared.block.OpenBlock.{OpenBlock}
 use Rattle.cell_port.specs.Blank.{none_written}
@@ -28,6 +29,7 @@ use Rattle.cell_port.specs.PlainView.{plain_view}
 use Rattle.cell_port.specs.View.{open_words, write_word, close_block, IsOpenFor, written_words}
 use Rattle.cell_port.specs.Tables.{PlainRows}
 use Rattle.cell_port.specs.Plain.{Ties, Tied, OpensBelow, claims_on, bind_claims, rows_filled}
+use Rattle.cell_port.proofs.RowsGrow.{rows-bound, rows-object, rows-action}
 use Rattle.cell_port.proofs.PlainOpens.{opens-more, opens-claim, opens-bind, opens-close, opens-write, opens-fill, opens-cell, open-free, open-length, length-written, with_record}
 
 -- a content has a word
@@ -88,10 +90,10 @@ module _ (up : State) (r : PlainRows) (opened : List OpenBlock) (seen : List Eve
   -- ---- events that leave the tables as they are
 
   pub tied-look : (note : Note) (space : Space) (digest : Digest) → Tied up r opened (event_of note (Look space digest) ∷ seen)
-  tied-look note space digest = record { ties = t.ties; lawful = (t.lawful, tt); within = t.within; opens = t.opens }
+  tied-look note space digest = record { ties = t.ties; lawful = (t.lawful, tt); within = t.within; opens = t.opens; rows = t.rows }
 
   pub tied-read : (note : Note) (cell : Place) → IsSome (record_at now.bound cell.at) → Tied up r opened (event_of note (Read cell) ∷ seen)
-  tied-read note cell there = record { ties = t.ties; lawful = (t.lawful, there); within = t.within; opens = t.opens }
+  tied-read note cell there = record { ties = t.ties; lawful = (t.lawful, there); within = t.within; opens = t.opens; rows = t.rows }
 
   pub tied-room : (note : Note) (n : ℕ) → 0 < n → r.start.size < r.counter + n → Tied up r opened (event_of note (Room n false) ∷ seen)
   tied-room note n some full = record {
@@ -99,6 +101,7 @@ module _ (up : State) (r : PlainRows) (opened : List OpenBlock) (seen : List Eve
     lawful = (t.lawful, (some, omega (arith, t.ties.size_is, t.ties.counter_is)));
     within = t.within;
     opens = t.opens;
+    rows = t.rows;
   }
 
   -- ---- claims
@@ -111,11 +114,12 @@ module _ (up : State) (r : PlainRows) (opened : List OpenBlock) (seen : List Eve
       given_is = ap (λ k. k + n) t.ties.counter_is;
       bound_is = t.ties.bound_is;
       filled_is = t.ties.filled_is;
-      blocks_are = t.ties.blocks_are;
+      blocks_is = t.ties.blocks_is;
     };
     lawful = (t.lawful, (some, omega (arith, t.ties.size_is, t.ties.counter_is)));
     within = fits;
     opens = opens-more (claimed_by now note.who n) opened r.counter (r.counter + n) (omega arith) (opens-claim now note.who n opened r.counter t.opens);
+    rows = t.rows;
   }
 
   -- a claim gives a free block
@@ -139,15 +143,16 @@ module _ (up : State) (r : PlainRows) (opened : List OpenBlock) (seen : List Eve
           subst (λ k. IsFreeBlock (claimed_by now note.who n) note.who r.counter k) (sym (length-none n)) (claim-free note.who n),
           opens-claim now note.who n opened r.counter t.opens,
         );
+        rows = t.rows;
       }
 
   -- ---- open blocks
 
   pub tied-write : (at i w : ℕ) → Tied up r (write_word opened at i w) seen
-  tied-write at i w = record { ties = t.ties; lawful = t.lawful; within = t.within; opens = opens-write now opened r.counter at i w t.opens }
+  tied-write at i w = record { ties = t.ties; lawful = t.lawful; within = t.within; opens = opens-write now opened r.counter at i w t.opens; rows = t.rows }
 
   pub tied-close : (at : ℕ) → Tied up r (close_block opened at) seen
-  tied-close at = record { ties = t.ties; lawful = t.lawful; within = t.within; opens = opens-close now opened r.counter at t.opens }
+  tied-close at = record { ties = t.ties; lawful = t.lawful; within = t.within; opens = opens-close now opened r.counter at t.opens; rows = t.rows }
 
 -- ---- the claims of a bind
 
@@ -201,6 +206,10 @@ module _ (up : State) (r : PlainRows) (opened : List OpenBlock) (seen : List Eve
   free : IsFreeBlock claimed note.who r.counter 5
   free = free-claims r.start (event_of note (Claim 5) ∷ seen) note k note.who r.counter 5 (claim-free up r opened seen t note.who 5)
 
+  -- no record is at the counter
+  fresh : record_at r.bound r.counter ≡ None
+  fresh = ap (λ (rs : List Record). record_at rs r.counter) (sym t.ties.bound_is) ∙ (counter-free up r opened seen t).0
+
   pub bound-now : bound_by claimed space digest (place_of claimed.bound space digest) (Some own) ≡ with_record claimed row
   bound-now = ap (λ (o : Option Place). bound_by claimed space digest o (Some own)) none-bound
 
@@ -216,11 +225,12 @@ module _ (up : State) (r : PlainRows) (opened : List OpenBlock) (seen : List Eve
           given_is = before.ties.given_is;
           bound_is = ap (λ (rs : List Record). row ∷ rs) before.ties.bound_is;
           filled_is = before.ties.filled_is;
-          blocks_are = before.ties.blocks_are;
+          blocks_is = before.ties.blocks_is;
         });
         lawful = (before.lawful, subst (λ (o : Option Place). MayBind claimed note.who o (Some own)) (sym none-bound) free);
         within = fits;
         opens = subst (λ (s : Tables). OpensBelow s (r.counter + (5 + 16 * k)) opened) (sym bound-now) (opens-more _ opened r.counter (r.counter + (5 + 16 * k)) (omega arith) opens);
+        rows = rows-bound row r.bound r.blocks r.filled fresh t.rows;
       }
 
 -- ---- fills
@@ -233,7 +243,7 @@ ties-filled s r zero cell value [] t = record {
   given_is = t.given_is;
   bound_is = t.bound_is;
   filled_is = ap (λ (cs : List Cell). (record { of = cell; value = value }) ∷ cs) t.filled_is;
-  blocks_are = t.blocks_are;
+  blocks_is = t.blocks_is;
 }
 ties-filled s r zero cell value (w ∷ ws) t = record {
   size_is = t.size_is;
@@ -241,7 +251,7 @@ ties-filled s r zero cell value (w ∷ ws) t = record {
   given_is = t.given_is;
   bound_is = t.bound_is;
   filled_is = ap (λ (cs : List Cell). (record { of = cell; value = value }) ∷ cs) t.filled_is;
-  blocks_are = λ n. ap (cond (value == n) (Some (w ∷ ws))) (t.blocks_are n);
+  blocks_is = ap (λ (bs : List Content). (record { place = value; words = w ∷ ws }) ∷ bs) t.blocks_is;
 }
 
 opens-filled : (s : Tables) (os : List OpenBlock) (n had : ℕ) (cell : Place) (value : ℕ) (words : List ℕ) → (words ≡ [] → ⊥) → OpensBelow s n os → OpensBelow (filled_by s had cell value words) n (close_block os value)
@@ -274,6 +284,16 @@ module _ (up : State) (r : PlainRows) (opened : List OpenBlock) (seen : List Eve
   had-is : cell_of (tables r.start seen).filled cell.at ≡ cell_of r.filled cell.at
   had-is = ap (λ (cs : List Cell). cell_of cs cell.at) t.ties.filled_is
 
+  -- a claimed block and a record do not lie at 0
+  claim-some : (value n : ℕ) → IsFreeBlock (tables r.start seen) note.who value n → 0 < value
+  claim-some value n free =
+      let within = claim-within r.start.counter (tables r.start seen).given (tables r.start seen).claims note.who value n (placed-run up r.start seen t.lawful).claims free.claimed in
+      let start = lawful-start up r.start seen t.lawful in
+      omega (arith, within.0, start.counter_least)
+
+  record-some : (n : ℕ) (found : Record) → record_at (tables r.start seen).bound n ≡ Some found → 0 < n
+  record-some n found is = let fits = run-named-fits up r.start seen t.lawful n 5 (inl (ap is_some is, refl)) in omega (arith, fits.0)
+
   -- an object's fill with a block that is open
   pub tied-fill : (value n : ℕ) (words : List ℕ) (found : Record) → IsOpenFor opened note.who value n → length words ≡ n → record_at (tables r.start seen).bound cell.at ≡ Some found → found.space ≡ Objects
       → IsObjectRule up (tables r.start seen) found.digest value words
@@ -293,6 +313,7 @@ module _ (up : State) (r : PlainRows) (opened : List OpenBlock) (seen : List Eve
         opens = subst (λ (start : Tables). OpensBelow (tables start (event_of note (Fill cell value words) ∷ seen)) rows.counter (close_block opened value)) (sym same.1)
             (subst (λ k. OpensBelow after k (close_block opened value)) (sym same.0)
             (opens-filled s opened r.counter (cell_of s.filled cell.at) cell value words (λ none. content-some words rule.for.content none) t.opens));
+        rows = rows-object s r t.ties (cell_of r.filled cell.at) cell value words found refl at object free.0.no_content (claim-some value n free.0) (λ none. content-some words rule.for.content none) rule.for t.rows;
       }
 
   -- an action's fill
@@ -311,6 +332,7 @@ module _ (up : State) (r : PlainRows) (opened : List OpenBlock) (seen : List Eve
         within = subst (λ (start : Tables). rows.counter ≤ start.size) (sym same.1) (subst (λ k. k ≤ r.start.size) (sym same.0) t.within);
         opens = subst (λ (start : Tables). OpensBelow (tables start (event_of note (Fill cell value []) ∷ seen)) rows.counter opened) (sym same.1)
             (subst (λ k. OpensBelow after k opened) (sym same.0) (opens-placed s opened r.counter (cell_of s.filled cell.at) cell value t.opens));
+        rows = rows-action s r t.ties (cell_of r.filled cell.at) cell value found refl at action (record-some value rule.object.object.found rule.object.object.is) rule.object t.rows;
       }
 
   -- the fill that the port's contract asks for

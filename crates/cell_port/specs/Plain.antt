@@ -7,7 +7,7 @@ use Rattle.cas_model.specs.declared.place.Full.{Full as Refusal}
 use Rattle.cas_model.specs.declared.place.Place.{Place}
 use Rattle.cas_model.specs.declared.place.Space.{Space}
 use Rattle.cas_model.specs.State.{State, empty_state}
-use Rattle.cas_model.specs.Tables.{Tables, words_at}
+use Rattle.cas_model.specs.Tables.{Tables}
 use Rattle.cas_history.specs.declared.event.Act.TheVariants.{Bind, Claim, Room, Fill}
 use Rattle.cas_history.specs.declared.event.Event.{Event}
 use Rattle.cas_history.specs.Lawful.{IsLawfulRun, IsFreeBlock}
@@ -16,6 +16,7 @@ use Rattle.cell_port.specs.declared.block.OpenBlock.{OpenBlock}
 use Rattle.cell_port.specs.declared.block.PortError.{PortError}
 use Rattle.cell_port.specs.declared.block.PortError.TheVariants.{Full, Memory}
 use Rattle.cell_port.specs.Calls.{event_of}
+use Rattle.cell_port.specs.FilledRows.{AreRows}
 use Rattle.cell_port.specs.Needed.{needed}
 use Rattle.cell_port.specs.Tables.{PlainRows}
 
@@ -109,10 +110,12 @@ pub record Ties (s : Tables) (r : PlainRows) : Type 0 where
   pub given_is : s.given ≡ r.counter
   pub bound_is : s.bound ≡ r.bound
   pub filled_is : s.filled ≡ r.filled
-  pub blocks_are : (n : ℕ) → words_at s.blocks n ≡ words_at r.blocks n
+  pub blocks_is : s.blocks ≡ r.blocks
 
 pub record Tied (up : State) (r : PlainRows) (opened : List OpenBlock) (seen : List Event) : Type 0 where
   pub ties : Ties (tables r.start seen) r
   pub lawful : IsLawfulRun up r.start seen
   pub within : r.counter ≤ r.start.size
   pub opens : OpensBelow (tables r.start seen) r.counter opened
+  -- each filled cell names what it may, in the order in which they were filled
+  pub rows : AreRows r.bound r.blocks r.filled

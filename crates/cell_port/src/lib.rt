@@ -6,6 +6,7 @@ mod block;
 mod depth;
 mod digest_words;
 mod moves;
+mod parts;
 mod plain;
 mod port;
 mod searches;

@@ -25,10 +25,11 @@ pub fn bind_new(
     requires { place_of tables.old.bound space digest.now ≡ None }
     ensures ok { IfOk result (λ place. BindsNew note space digest.now tables.old tables.new events.old.items events.new.items place) }
     ensures err { IfErr result (BindStays note (needed tables.old.bound space digest.now) tables.old tables.new events.old.items events.new.items) }
+    ensures within { OnErr result (tables.old.counter ≤ tables.old.start.size) }
 {
     let subtries = tables.new_subtries(space, digest);
-    events.reserve(64)?;
     let at = tables.counter();
+    events.reserve(64)?;
     let parts = 5 + 16 * subtries;
     if tables.size() - at < parts {
         return Err(PortError::Full(refuse_bind(tables, events, note)));

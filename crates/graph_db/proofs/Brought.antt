@@ -1,30 +1,27 @@
 -- Binding the digest, claiming the content and filling the cell.
-use Rattle.std.proofs.Common.{◌≡◌, ℕ, zero, suc, ◌+◌, ◌-◌, ◌*◌, ◌/◌, ◌%◌, ◌^◌, ◌<◌, ◌≤◌, List, [], ◌∷◌, ◌++◌, Bool, true, false, not, cond, ◌==◌, ◌⊎◌, inl, inr, None, Some, IsSome, IsTrue, is_some, refl, ap, sym, ◌∙◌, subst, arith, slice_get, take, drop, length, get_or, map, unwrap_or}
+use Rattle.std.proofs.Common.{◌≡◌, ℕ, zero, suc, ◌+◌, ◌-◌, ◌<◌, ◌≤◌, List, [], ◌∷◌, ◌++◌, Bool, true, cond, ◌⊎◌, inl, inr, None, Some, IsTrue, refl, ap, sym, ◌∙◌, subst, arith, drop, length, map, unwrap_or}
 use Rattle.std.specs.declared.option.Option.{Option}
 use Rattle.std.specs.FinMap as fin
 use Rattle.std.proofs.lemmas.Bool.{eq-eqb}
-use Rattle.cas_model.specs.declared.call.Call.{Call}
 use Rattle.cas_model.specs.declared.call.Call.TheVariants.{Store}
 use Rattle.cas_model.specs.declared.call.Reply.{Reply}
 use Rattle.cas_model.specs.declared.call.Reply.TheVariants as reply
 use Rattle.cas_model.specs.declared.call.Who.{Who}
 use Rattle.cas_model.specs.declared.digest.Digest.{Digest}
-use Rattle.cas_model.specs.declared.note.Note.{Note}
 use Rattle.cas_model.specs.declared.note.Stage.TheVariants.{Own}
 use Rattle.cas_model.specs.declared.object.Object.{Object}
 use Rattle.cas_model.specs.declared.place.Full.{Full}
 use Rattle.cas_model.specs.declared.place.Place.{Place}
 use Rattle.cas_model.specs.declared.place.Space.TheVariants.{Objects}
 use Rattle.cas_model.specs.declared.tables.Record.{Record}
-use Rattle.cas_model.specs.Content.{IsContent, content_size, content_words, content_places, content_bytes, data_words}
+use Rattle.cas_model.specs.Content.{IsContent, content_size, content_places, content_bytes, data_words}
 use Rattle.cas_model.specs.Object.{object_digest, digest_of}
-use Rattle.cas_model.specs.Primary.{cell_under, cell_at, primary}
-use Rattle.cas_model.specs.Start.{IsRecord, IsFilled, RefsBelow, IsContentFor}
+use Rattle.cas_model.specs.Primary.{cell_under, cell_at}
+use Rattle.cas_model.specs.Start.{IsFilled, RefsBelow}
 use Rattle.cas_model.specs.State.{State, has}
-use Rattle.cas_model.specs.Tables.{Tables, place_of, record_at, cell_of, words_at, digest_at, digests_at, digest_of_record, object_of}
+use Rattle.cas_model.specs.Tables.{Tables, place_of, cell_of, digest_at, digests_at, digest_of_record, object_of}
 use Rattle.cas_model.proofs.ContentLemmas.{content_places-words, content_bytes-words, content_words-IsContent, AreBytes}
-use Rattle.cas_history.specs.declared.event.Act.{Act}
-use Rattle.cas_history.specs.declared.event.Act.TheVariants.{Look, Bind, Read, Claim, Room, Fill}
+use Rattle.cas_history.specs.declared.event.Act.TheVariants.{Bind, Claim, Room, Fill}
 use Rattle.cas_history.specs.declared.event.Event.{Event}
 use Rattle.cas_history.specs.Conduct.{MayAct, AreThere, missed, is_own, IsContentOf}
 use Rattle.cas_history.specs.Cost.{object_cost}
@@ -48,12 +45,12 @@ use Rattle.cell_port.specs.declared.block.PortError.TheVariants as port
 use Rattle.cell_port.specs.Blank.{none_written}
 use Rattle.cell_port.specs.Calls.{event_of, Adds, IsLawful, IsPart, BoundTo, BindRefused, BindFull, HasClaimed, ClaimRefused, IsWholeFill, HasFilled, Abandons, words_of}
 use Rattle.cell_port.specs.View.{View, tables, tables_before, open_words, close_block, IsOpenFor, all_written}
-use Rattle.graph_db.specs.Events.{SpeaksFor, Goes, Ends, Last, Stops, seen_state}
+use Rattle.graph_db.specs.Events.{SpeaksFor, Ends, Stops, seen_state}
 use Rattle.graph_db.specs.Stores.{object_with, own_note, HasNoRoom}
-use Rattle.graph_db.specs.Parts.{HasRefs, AreFilled, places_in, place_number, partly, block_of, IsOpenAlone, shut, Writes, WriteStops, Brings, BringStops}
-use Rattle.graph_db.proofs.Steps.{goes-speaks, goes-start, goes-upstream, goes-takes, goes-then, goes-opened, missed-more, claims-before, foreign-before, event-ends, event-last, adds-ends, ends-self, ends-then, ends-more, wants-stops, then-stops, stops-more, lawful-then}
+use Rattle.graph_db.specs.Parts.{HasRefs, AreFilled, places_in, place_number, block_of, shut, Writes, WriteStops, Brings, BringStops}
+use Rattle.graph_db.proofs.Steps.{goes-speaks, goes-upstream, goes-takes, goes-opened, missed-more, claims-before, foreign-before, event-ends, event-last, adds-ends, ends-self, ends-then, ends-more, wants-stops, then-stops, stops-more}
 use Rattle.graph_db.proofs.Sought.{there-more}
-use Rattle.graph_db.proofs.Found.{goes-grows, refs-stay, refs-there, cell-grows, filled-grows}
+use Rattle.graph_db.proofs.Found.{goes-grows, refs-stay, refs-there, filled-grows}
 use Rattle.graph_db.proofs.Written.{words_for, length-content, length-places, all_written-some, length-map-some, words-some}
 
 -- ---- what a store may do with its own digest
@@ -83,7 +80,7 @@ full-is : (who : Who) (o : Object) (old new : View) (before : List Event) (n : �
     → decided old.upstream (tables_after old.start (before ++ old.seen)) (Store o) ((own_note who).stage) (Room n moved) ≡ Some (reply.Full at n size)
 full-is who o old new before n moved at size is at-is size-is =
     let P : View → Type 0 = λ v. at ≡ (tables_before v).counter → size ≡ (tables_before v).size
-        → decided old.upstream (tables_after old.start (before ++ old.seen)) (Store o) ((own_note who).stage) (Room n moved) ≡ Some (reply.Full at n size) in
+    → decided old.upstream (tables_after old.start (before ++ old.seen)) (Store o) ((own_note who).stage) (Room n moved) ≡ Some (reply.Full at n size) in
     subst P (sym is) (λ a s. λ i. Some (reply.Full (sym a i) n (sym s i))) at-is size-is
 
 no-room : (who : Who) (o : Object) (first old new : View) (m : ℕ) (at asked size : ℕ) → m + 997 ≤ object_cost o → SpeaksFor old who → AreThere old.upstream old.start old.seen who 0 o.refs
@@ -91,8 +88,8 @@ no-room : (who : Who) (o : Object) (first old new : View) (m : ℕ) (at asked si
 no-room who o first old new m at asked size fits mine there missed_it earlier b =
     let says = full-is who o old new b.before asked b.moved at size b.is b.at_is b.size_is in
     let here = event-ends (own_note who) (Store o) (Room asked b.moved) (Some (reply.Full at asked size)) old new b.before (997 - asked) 997
-        (claims-before (own_note who) (Store o) old b.before (997 - asked) mine (λ more n part. may-claim who o (object_digest o) old refl there missed_it more n (inl part)) b.claims)
-        b.is (let le = b.most in omega (arith, le)) (may-room who o (object_digest o) old refl there missed_it b.before asked b.moved (inl b.part)) says in
+    (claims-before (own_note who) (Store o) old b.before (997 - asked) mine (λ more n part. may-claim who o (object_digest o) old refl there missed_it more n (inl part)) b.claims)
+    b.is (let le = b.most in omega (arith, le)) (may-room who o (object_digest o) old refl there missed_it b.before asked b.moved (inl b.part)) says in
     record {
       ends = ends-more who (Store o) _ first new (m + 997) (object_cost o) fits (ends-then who (Store o) (Some (reply.Full at asked size)) first old new m 997 earlier here);
       last = event-last (own_note who) (Store o) (Room asked b.moved) (Some (reply.Full at asked size)) old new b.before b.is says;
@@ -404,7 +401,7 @@ module _ (who : Who) (refs : List Digest) (bytes : List ℕ) (digest : Digest) (
       reply-some (left_by s (Fill cell block.place.at (words_for (tables claimed) refs bytes))) (reply.Stored (object_digest o)) (fill-left s cell block.place.at (words_for (tables claimed) refs bytes) b.placed) in
       let adds : Adds (shut v) new (event_of (own_note who) (Fill cell block.place.at (words_for (tables claimed) refs bytes))) = record { others = f.others; foreign = f.foreign; is = new-is } in
       let here = event-ends (own_note who) (Store o) (Fill cell block.place.at (words_for (tables claimed) refs bytes)) (Some (reply.Stored (object_digest o))) (shut v) new f.others 0 0
-          (foreign-before who (Store o) (shut v) f.others mine-v f.foreign) new-is (omega arith) may says in
+      (foreign-before who (Store o) (shut v) f.others mine-v f.foreign) new-is (omega arith) may says in
       record {
         there = subst (λ (x : View). has (seen_state x) (object_digest o) ≡ true) (sym new-is)
             (cell-has (tables_after v.start (event_of (own_note who) (Fill cell block.place.at (words_for (tables claimed) refs bytes)) ∷ f.others ++ v.seen)) (object_digest o) (sound-run v.upstream v.start (event_of (own_note who) (Fill cell block.place.at (words_for (tables claimed) refs bytes)) ∷ f.others ++ v.seen) run)

@@ -1,8 +1,7 @@
 -- Looking for the references of a store.
-use Rattle.std.proofs.Common.{◌≡◌, ℕ, zero, suc, ◌+◌, ◌≤◌, ◌<◌, List, [], ◌∷◌, ◌++◌, Bool, true, false, not, cond, ◌==◌, ◌&&◌, ◌||◌, ◌⊎◌, inl, inr, None, Some, refl, ap, sym, ◌∙◌, subst, arith, slice_get, take, length, get_or, add-zero, add-suc, add-one, length-take, Err, IfErr}
+use Rattle.std.proofs.Common.{◌≡◌, ℕ, zero, suc, ◌+◌, ◌<◌, List, [], ◌∷◌, ◌++◌, Bool, true, false, not, ◌==◌, ◌&&◌, ◌||◌, inl, inr, None, Some, refl, ap, sym, ◌∙◌, subst, arith, slice_get, take, length, add-zero}
 use Rattle.std.specs.declared.option.Option.{Option}
 use Rattle.std.proofs.lemmas.Bool.{eq-eqb, eqb-true}
-use Rattle.std.proofs.Math.Seq.{take-suc}
 use Rattle.cas_model.specs.declared.call.Call.{Call}
 use Rattle.cas_model.specs.declared.call.Call.TheVariants.{Store}
 use Rattle.cas_model.specs.declared.call.Reply.{Reply}
@@ -11,33 +10,29 @@ use Rattle.cas_model.specs.declared.call.Who.{Who}
 use Rattle.cas_model.specs.declared.digest.Digest.{Digest}
 use Rattle.cas_model.specs.declared.note.Note.{Note}
 use Rattle.cas_model.specs.declared.note.Stage.{Stage}
-use Rattle.cas_model.specs.declared.note.Stage.TheVariants.{Ref, Own}
-use Rattle.cas_model.specs.declared.object.Object.{Object}
 use Rattle.cas_model.specs.declared.place.Place.{Place}
 use Rattle.cas_model.specs.declared.place.Space.TheVariants.{Objects}
 use Rattle.cas_model.specs.Primary.{primary, cell_under, cell_at}
 use Rattle.cas_model.specs.State.{State, has, HasAll}
-use Rattle.cas_model.specs.Step.{IsFirstLacked}
 use Rattle.cas_model.specs.Tables.{Tables, place_of, cell_of}
 use Rattle.cas_history.specs.declared.event.Act.{Act}
 use Rattle.cas_history.specs.declared.event.Act.TheVariants.{Look}
 use Rattle.cas_history.specs.declared.event.Event.{Event}
 use Rattle.cas_history.specs.Conduct.{MayLookFor, AreThere, same_who, found_ref, is_ref, missed}
-use Rattle.cas_history.specs.Cost.{asked, object_cost}
-use Rattle.cas_history.specs.History.{decided, decided_at, dangling, reply_where, is_miss, read_by}
+use Rattle.cas_history.specs.Cost.{object_cost}
+use Rattle.cas_history.specs.History.{decided_at, dangling, reply_where, is_miss, read_by}
 use Rattle.cas_history.specs.Lawful.{IsLawfulRun}
 use Rattle.cas_history.specs.Run.{tables as tables_after}
 use Rattle.cas_history.proofs.Grown.{Grows, grows-more}
 use Rattle.cas_history.proofs.Sound.{IsSound, sound-run}
 use Rattle.cas_history.proofs.Visible.{cell-has}
-use Rattle.cell_port.specs.Calls.{event_of, IsLawful}
+use Rattle.cell_port.specs.Calls.{IsLawful}
 use Rattle.cell_port.specs.View.{View, tables}
-use Rattle.graph_db.specs.declared.error.StoreError.TheVariants as error
-use Rattle.graph_db.specs.Events.{SpeaksFor, Goes, Reads, Stands, Ends, Last, Stops, seen_state}
+use Rattle.graph_db.specs.Events.{Goes, Reads, Stands, Ends, Last, Stops}
 use Rattle.graph_db.specs.Holds.{MaySeek, HasSought, SeekStops}
-use Rattle.graph_db.specs.Stores.{object_with, ref_note, own_note, IsDangling, IsRefused}
-use Rattle.graph_db.specs.Parts.{HasSoughtValue, IsLawfulOrSame, AreFilled, HasRefs, FindsFirst, FindsRefs, IsRefusedFor}
-use Rattle.graph_db.proofs.Steps.{reads-self, reads-then, reads-goes, ends-self, ends-then, ends-more, goes-speaks, goes-upstream, goes-opened, lawful-then, then-stops, stops-more}
+use Rattle.graph_db.specs.Stores.{object_with, ref_note, IsDangling}
+use Rattle.graph_db.specs.Parts.{HasSoughtValue, IsLawfulOrSame, AreFilled, HasRefs, FindsFirst}
+use Rattle.graph_db.proofs.Steps.{reads-self, reads-then, reads-goes, ends-self, ends-then, goes-upstream, goes-opened, lawful-then, then-stops, stops-more}
 use Rattle.graph_db.proofs.Sought.{found-more}
 
 -- ---- what stays

@@ -4,3 +4,4 @@ pub mod Found
 pub mod Written
 pub mod Brought
 pub mod Stored
+pub mod Loaded

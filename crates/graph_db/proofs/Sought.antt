@@ -1,5 +1,5 @@
 -- Looking for an object: a look, and a read of its record.
-use Rattle.std.proofs.Common.{◌≡◌, ℕ, zero, suc, ◌+◌, ◌≤◌, ◌<◌, List, [], ◌∷◌, ◌++◌, Bool, true, false, not, cond, ◌==◌, ◌&&◌, ◌||◌, ◌⊎◌, inl, inr, None, Some, IsSome, is_none, is_some, refl, ap, sym, ◌∙◌, subst, arith, slice_get, take}
+use Rattle.std.proofs.Common.{◌≡◌, ℕ, zero, suc, List, [], ◌∷◌, ◌++◌, Bool, true, false, not, ◌==◌, ◌&&◌, ◌||◌, inl, inr, None, Some, IsSome, is_none, is_some, refl, ap, sym, ◌∙◌, subst, arith, slice_get, take}
 use Rattle.std.specs.declared.option.Option.{Option}
 use Rattle.std.specs.FinMap as fin
 use Rattle.std.proofs.lemmas.Bool.{eqb-true}
@@ -13,30 +13,29 @@ use Rattle.cas_model.specs.declared.note.Note.{Note}
 use Rattle.cas_model.specs.declared.note.Stage.{Stage}
 use Rattle.cas_model.specs.declared.note.Stage.TheVariants.{Ref, Own, Key, Deep}
 use Rattle.cas_model.specs.declared.place.Place.{Place}
-use Rattle.cas_model.specs.declared.place.Space.{Space}
-use Rattle.cas_model.specs.declared.place.Space.TheVariants.{Objects, Actions}
+use Rattle.cas_model.specs.declared.place.Space.TheVariants.{Objects}
 use Rattle.cas_model.specs.Primary.{primary, cell_under, cell_at}
 use Rattle.cas_model.specs.State.{State, has}
-use Rattle.cas_model.specs.Tables.{Tables, place_of, record_at, cell_of}
+use Rattle.cas_model.specs.Tables.{Tables, place_of, cell_of}
 use Rattle.cas_model.proofs.Maps.{get-object}
 use Rattle.cas_history.specs.declared.event.Act.{Act}
 use Rattle.cas_history.specs.declared.event.Act.TheVariants.{Look, Read}
 use Rattle.cas_history.specs.declared.event.Event.{Event}
-use Rattle.cas_history.specs.Conduct.{CallOpen, MayAct, MayLookFor, AreThere, same_who, found_ref, is_ref, missed}
+use Rattle.cas_history.specs.Conduct.{CallOpen, MayAct, MayLookFor, AreThere, same_who, found_ref, is_ref}
 use Rattle.cas_history.specs.Cost.{asked}
-use Rattle.cas_history.specs.History.{decided, decided_at, dangling, reply_where, is_miss, read_by}
+use Rattle.cas_history.specs.History.{decided, dangling, reply_where, is_miss, read_by}
 use Rattle.cas_history.specs.Lawful.{IsLawfulRun}
 use Rattle.cas_history.specs.Run.{tables as tables_after}
 use Rattle.cas_history.proofs.Grown.{grows-more}
 use Rattle.cas_history.proofs.Sound.{IsSound, sound-run}
 use Rattle.cas_history.proofs.Under.{under-none}
 use Rattle.cas_history.proofs.Visible.{cell-has}
-use Rattle.cell_port.specs.Calls.{event_of, Adds, WantsMemory, IsLawful, Looked, HasRead, HasRecord}
+use Rattle.cell_port.specs.Calls.{event_of, WantsMemory, IsLawful, Looked, HasRead, HasRecord}
 use Rattle.cell_port.specs.View.{View, tables, Foreign}
-use Rattle.graph_db.specs.Events.{SpeaksFor, Reads, AreReadings, Stands, Ends, Last, seen_state}
-use Rattle.graph_db.specs.Holds.{MaySeek, HasSought, SeekStops}
+use Rattle.graph_db.specs.Events.{SpeaksFor, Reads, Stands}
+use Rattle.graph_db.specs.Holds.{MaySeek, SeekStops}
 use Rattle.graph_db.specs.Parts.{HasSoughtValue}
-use Rattle.graph_db.proofs.Steps.{stands-event, foreign-before, readings-foreign, reads-then, asked-readings, missed-more}
+use Rattle.graph_db.proofs.Steps.{stands-event, foreign-before, readings-foreign, reads-then, asked-readings}
 
 -- ---- what the conduct allows
 
@@ -180,6 +179,7 @@ module _ (note : Note) (digest : Digest) (old : View) (others : List Event) (min
           about = (refl, refl);
           missed = ap is_none none;
           unread = refl;
+          same = refl;
           decides = λ call. refl;
           stands = look-stands;
         };
@@ -257,6 +257,7 @@ module _ (note : Note) (digest : Digest) (cell : Place) (old : View) (others : L
           about = read-at;
           missed = miss;
           unread = miss;
+          same = refl;
           decides = λ call. refl;
           stands = read-stands;
         };
@@ -283,6 +284,7 @@ sought-then note digest cell old mid new value mine looked h =
         about = h.sought.about;
         missed = h.sought.missed;
         unread = h.sought.unread;
+        same = h.sought.same;
         decides = h.sought.decides;
         stands = λ calls call is may opens. h.sought.stands calls call is (looked-may note call digest old mid (Some cell) looked may) (looked-stands note digest old mid cell mine looked calls call is may opens);
       };

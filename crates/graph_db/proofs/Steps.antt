@@ -1,5 +1,5 @@
 -- The events of a call, one after another.
-use Rattle.std.proofs.Common.{◌≡◌, ◌≢◌, ℕ, zero, suc, ◌+◌, ◌-◌, ◌≤◌, List, [], ◌∷◌, ◌++◌, Bool, true, false, cond, ◌==◌, ◌&&◌, ◌||◌, ◌⊎◌, inl, inr, None, Some, IsTrue, refl, ap, sym, ◌∙◌, subst, append_assoc, add-zero, zero-add, arith, OnErr, IfErr, IfOk, IsErrAnd, Ok, Err}
+use Rattle.std.proofs.Common.{◌≡◌, ◌≢◌, ℕ, suc, ◌+◌, ◌-◌, ◌<◌, ◌≤◌, List, [], ◌∷◌, ◌++◌, Bool, true, false, cond, ◌==◌, ◌&&◌, ◌||◌, ◌⊎◌, inl, inr, None, Some, IsTrue, refl, ap, sym, ◌∙◌, subst, append_assoc, zero-add, arith, OnErr, IfErr, IfOk, IsErrAnd, Ok, Err}
 use Rattle.std.specs.declared.option.Option.{Option}
 use Rattle.std.specs.declared.result.Result.{Result}
 use Rattle.std.proofs.lemmas.Bool.{eqb-true, eq-eqb}
@@ -14,16 +14,16 @@ use Rattle.cas_model.specs.Tables.{Tables}
 use Rattle.cas_history.specs.declared.event.Act.{Act}
 use Rattle.cas_history.specs.declared.event.Act.TheVariants.{Look, Bind, Read, Claim, Room, Fill}
 use Rattle.cas_history.specs.declared.event.Event.{Event}
-use Rattle.cas_history.specs.Conduct.{CallOpen, HasConduct, MayAct, same_who, missed, found_ref, is_ref}
+use Rattle.cas_history.specs.Conduct.{CallOpen, MayAct, same_who, missed}
 use Rattle.cas_history.specs.Cost.{asked, asked_by}
-use Rattle.cas_history.specs.History.{history, decided, count_of, with_event, with_entry, is_miss, read_by}
+use Rattle.cas_history.specs.History.{history, decided, count_of, with_event, with_entry, is_miss}
 use Rattle.cas_history.specs.Laws.{AreOfOtherSessions}
 use Rattle.cas_history.specs.Run.{tables as tables_after}
 use Rattle.cas_history.proofs.Others.{others-leave, events-keep}
 use Rattle.cell_port.specs.declared.block.OpenBlock.{OpenBlock}
 use Rattle.cell_port.specs.Calls.{event_of, Adds, WantsMemory, BindClaims, IsPart, IsLawful}
 use Rattle.cell_port.specs.View.{View, Foreign}
-use Rattle.graph_db.specs.Events.{SpeaksFor, AreOf, Goes, is_reading, AreReadings, Reads, Last, CallDecided, Stands, Ends, Stops}
+use Rattle.graph_db.specs.Events.{SpeaksFor, AreOf, Goes, is_reading, AreReadings, Reads, Last, Stands, Ends, Stops}
 
 -- ---- whose events they are
 
@@ -283,3 +283,6 @@ ok-then (Err e) f h = tt
 pub on-err-then : {T E : Type 0} {P Q : Type 0} (r : Result T E) → (P → Q) → OnErr r P → OnErr r Q
 on-err-then (Ok x) f h = tt
 on-err-then (Err e) f h = f h
+
+pub within : {i n m : ℕ} → n ≡ m → i < n → i < m
+within {i} is lt = subst (λ k. i < k) is lt

@@ -1,5 +1,5 @@
 -- A store from its first look to its answer.
-use Rattle.std.proofs.Common.{◌≡◌, ℕ, zero, suc, ◌+◌, ◌≤◌, List, [], ◌∷◌, ◌++◌, Bool, true, false, not, ◌==◌, ◌⊎◌, inl, inr, None, Some, is_some, IsTrue, refl, ap, sym, ◌∙◌, subst, arith}
+use Rattle.std.proofs.Common.{◌≡◌, ℕ, zero, suc, ◌+◌, List, true, false, not, ◌==◌, None, Some, is_some, refl, ap, sym, ◌∙◌, subst, arith}
 use Rattle.std.specs.declared.option.Option.{Option}
 use Rattle.std.specs.FinMap as fin
 use Rattle.cas_model.specs.declared.call.Call.TheVariants.{Store}
@@ -9,9 +9,7 @@ use Rattle.cas_model.specs.declared.call.Who.{Who}
 use Rattle.cas_model.specs.declared.digest.Digest.{Digest}
 use Rattle.cas_model.specs.declared.object.Object.{Object}
 use Rattle.cas_model.specs.Object.{object_digest, digest_of}
-use Rattle.cas_model.specs.Primary.{cell_under}
 use Rattle.cas_model.specs.State.{State, has}
-use Rattle.cas_history.specs.declared.event.Act.{Act}
 use Rattle.cas_history.specs.Conduct.{missed, is_own}
 use Rattle.cas_history.specs.Cost.{object_cost}
 use Rattle.cas_history.specs.History.{decided_at, reply_with}
@@ -22,14 +20,13 @@ use Rattle.cell_port.specs.declared.block.PortError.{PortError}
 use Rattle.cell_port.specs.declared.block.PortError.TheVariants as port
 use Rattle.cell_port.specs.Calls.{IsLawful}
 use Rattle.cell_port.specs.View.{View, tables}
-use Rattle.graph_db.specs.declared.error.StoreError.TheVariants as error
-use Rattle.graph_db.specs.Events.{SpeaksFor, IsBrought, Goes, Reads, Ends, Last, Stops, seen_state}
+use Rattle.graph_db.specs.Events.{SpeaksFor, IsBrought, Ends, Last, Stops, seen_state}
 use Rattle.graph_db.specs.Errors.{store_error}
 use Rattle.graph_db.specs.Holds.{MaySeek, HasSought, SeekStops}
-use Rattle.graph_db.specs.Stores.{object_with, own_note, HasStored, IsRefused, HasNoRoom}
+use Rattle.graph_db.specs.Stores.{object_with, own_note, HasStored, IsRefused}
 use Rattle.graph_db.specs.Parts.{HasSoughtValue, IsLawfulOrSame, HasRefs, FindsRefs, Brings, BringStops}
-use Rattle.graph_db.proofs.Steps.{goes-speaks, goes-upstream, goes-then, reads-goes, ends-then, ends-more, then-stops, stops-more}
-use Rattle.graph_db.proofs.Found.{refs-there, refs-stay, goes-grows, sought-ends, sought-last, missed-here, seek-stops, lawful-same-then, not-zero-test, not-zero-less}
+use Rattle.graph_db.proofs.Steps.{goes-speaks, goes-upstream, reads-goes, ends-then, ends-more, then-stops, stops-more}
+use Rattle.graph_db.proofs.Found.{refs-there, refs-stay, goes-grows, sought-ends, sought-last, missed-here, seek-stops, lawful-same-then, not-zero-test}
 
 module _ (who : Who) (refs : List Digest) (bytes : List ℕ) (digest : Digest) (old mid : View) (is : digest ≡ digest_of refs bytes) (first : FindsRefs who refs old mid) where
   may-seek-own : MaySeek mid (own_note who) (Store (object_with refs bytes)) digest

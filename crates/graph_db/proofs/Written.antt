@@ -1,5 +1,5 @@
 -- Writing the words of a content into the call's newest block.
-use Rattle.std.proofs.Common.{◌≡◌, ℕ, zero, suc, ◌+◌, ◌*◌, ◌/◌, ◌<◌, ◌≤◌, List, [], ◌∷◌, ◌++◌, Bool, true, false, not, cond, ◌==◌, ◌⊎◌, inl, inr, None, Some, IsSome, IsTrue, is_some, refl, ap, sym, ◌∙◌, subst, arith, add-one, slice_get, take, drop, length, get_or, set, map, replicate, unwrap_or, w64}
+use Rattle.std.proofs.Common.{◌≡◌, ℕ, zero, suc, ◌+◌, ◌*◌, ◌/◌, ◌<◌, ◌≤◌, List, [], ◌∷◌, ◌++◌, Bool, true, cond, None, Some, IsSome, IsTrue, is_some, refl, ap, sym, ◌∙◌, subst, arith, add-one, slice_get, take, drop, length, get_or, set, map, unwrap_or, w64}
 use Rattle.std.specs.declared.option.Option.{Option}
 use Rattle.std.specs.Int.{from_le_bytes}
 use Rattle.std.proofs.lemmas.Bool.{eq-eqb}
@@ -14,22 +14,21 @@ use Rattle.cas_model.specs.declared.place.Place.{Place}
 use Rattle.cas_model.specs.declared.place.Space.TheVariants.{Objects}
 use Rattle.cas_model.specs.Content.{content_size, content_head, content_words, data_words, words_from, data_word_at}
 use Rattle.cas_model.specs.Primary.{cell_under, cell_at}
-use Rattle.cas_model.specs.Tables.{Tables, place_of, cell_of}
+use Rattle.cas_model.specs.Tables.{Tables, place_of}
 use Rattle.cas_history.specs.declared.event.Event.{Event}
-use Rattle.cas_history.specs.Lawful.{IsLawfulRun}
 use Rattle.cas_history.proofs.Grown.{Grows}
 use Rattle.cell_port.specs.declared.block.Block.{Block}
 use Rattle.cell_port.specs.declared.block.OpenBlock.{OpenBlock}
 use Rattle.cell_port.specs.Blank.{none_written}
 use Rattle.cell_port.specs.Calls.{Adds, IsLawful, IsOpen, HasWritten, Looked, WantsMemory}
 use Rattle.cell_port.specs.View.{View, tables, open_words, write_word, all_written}
-use Rattle.graph_db.specs.Events.{SpeaksFor, Goes, Ends}
+use Rattle.graph_db.specs.Events.{SpeaksFor, Ends}
 use Rattle.graph_db.specs.Holds.{MaySeek}
 use Rattle.graph_db.specs.Stores.{object_with, ref_note}
 use Rattle.graph_db.specs.Parts.{HasRefs, AreFilled, places_in, place_number, partly, block_of, IsOpenAlone, shut, Writes, WriteStops}
-use Rattle.graph_db.proofs.Steps.{ends-self, ends-then, reads-goes, goes-speaks, goes-takes, asked-readings, lawful-then}
+use Rattle.graph_db.proofs.Steps.{ends-self, ends-then, reads-goes, goes-speaks, goes-takes, asked-readings}
 use Rattle.graph_db.proofs.Sought.{looked-reads, looked-stands}
-use Rattle.graph_db.proofs.Found.{goes-grows, refs-stay, may-seek-ref, length-taken}
+use Rattle.graph_db.proofs.Found.{goes-grows, refs-stay, may-seek-ref}
 use Rattle.cas_history.specs.Cost.{asked}
 
 -- ---- lists of words

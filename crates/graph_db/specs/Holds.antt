@@ -1,5 +1,5 @@
 -- What looking for an object leaves.
-use Rattle.std.specs.Prelude.{◌≡◌, ℕ, ◌+◌, ◌≤◌, List, ◌∷◌, Bool, true, not, ◌==◌, ◌⊎◌, IsTrue, Some, None}
+use Rattle.std.specs.Prelude.{◌≡◌, ◌≤◌, List, ◌∷◌, Bool, not, ◌==◌, IsTrue, Some}
 use Rattle.std.specs.declared.option.Option.{Option}
 use Rattle.cas_model.specs.declared.call.Call.{Call}
 use Rattle.cas_model.specs.declared.digest.Digest.{Digest}
@@ -33,6 +33,7 @@ pub record HasSought (note : Note) (digest : Digest) (old new : View) (found : B
   pub about : IsAbout (tables_after new.start earlier) Objects digest act
   pub missed : is_miss (tables_after new.start earlier) act ≡ not found
   pub unread : (read_by (tables_after new.start earlier) act == 0) ≡ not found
+  pub same : tables_after new.start (event_of note act ∷ earlier) ≡ tables_after new.start earlier
   -- of each call it decides what a look or a read of its stage decides
   pub decides : (call : Call) → decided new.upstream (tables_after new.start earlier) call note.stage act ≡ decided_at new.upstream (tables_after new.start earlier) call note.stage act
   pub stands : (calls : Who → Option Call) (call : Call) → calls note.who ≡ Some call → MaySeek old note call digest → CallOpen old.upstream old.start calls note.who old.seen

@@ -1,5 +1,5 @@
 -- What a load leaves in its port.
-use Rattle.std.specs.Prelude.{◌≡◌, ℕ, true, false, not, ◌⊎◌, Some, None}
+use Rattle.std.specs.Prelude.{◌≡◌, true, false, not, ◌⊎◌, Some, None}
 use Rattle.std.specs.declared.option.Option.{Option}
 use Rattle.std.specs.FinMap as fin
 use Rattle.cas_model.specs.declared.call.Call.TheVariants.{Load}

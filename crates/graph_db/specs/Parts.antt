@@ -1,5 +1,5 @@
 -- The parts of a store and of a load.
-use Rattle.std.specs.Prelude.{◌≡◌, ℕ, zero, suc, ◌+◌, ◌<◌, ◌≤◌, List, [], ◌∷◌, ◌++◌, Bool, true, not, ◌==◌, ◌⊎◌, IsTrue, Some, None, take, drop, length}
+use Rattle.std.specs.Prelude.{◌≡◌, ℕ, zero, suc, ◌<◌, List, [], ◌∷◌, true, not, ◌==◌, ◌⊎◌, IsTrue, Some, None, take, drop, length}
 use Rattle.std.specs.declared.option.Option.{Option}
 use Rattle.cas_model.specs.declared.call.Call.TheVariants.{Store}
 use Rattle.cas_model.specs.declared.call.Reply.TheVariants as reply
@@ -14,7 +14,7 @@ use Rattle.cas_model.specs.Content.{IsContent, content_places}
 use Rattle.cas_model.specs.Object.{object_digest}
 use Rattle.cas_model.specs.Primary.{cell_under}
 use Rattle.cas_model.specs.State.{has, AreBytes}
-use Rattle.cas_model.specs.Tables.{Tables, place_of, record_at, words_at, digest_at, object_of}
+use Rattle.cas_model.specs.Tables.{Tables, place_of, record_at, words_at}
 use Rattle.cas_history.specs.Conduct.{found_ref}
 use Rattle.cas_history.specs.Cost.{object_cost}
 use Rattle.cas_history.specs.History.{left_by, read_by}
@@ -26,7 +26,6 @@ use Rattle.cell_port.specs.declared.block.PortError.TheVariants as port
 use Rattle.cell_port.specs.Calls.{IsLawful}
 use Rattle.cell_port.specs.View.{View, tables}
 use Rattle.graph_db.specs.declared.error.StoreError.{StoreError}
-use Rattle.graph_db.specs.declared.error.StoreError.TheVariants.{Dangling, Full, Memory}
 use Rattle.graph_db.specs.Events.{Ends, Last, Reads, Stops, seen_state}
 use Rattle.graph_db.specs.Holds.{HasSought}
 use Rattle.graph_db.specs.Stores.{own_note, object_with, HasNoRoom, IsRefused}

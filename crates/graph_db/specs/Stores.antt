@@ -1,5 +1,5 @@
 -- What a store leaves in its port.
-use Rattle.std.specs.Prelude.{◌≡◌, ℕ, List, Bool, true, not, Some, None}
+use Rattle.std.specs.Prelude.{◌≡◌, ℕ, List, true, not, Some}
 use Rattle.cas_model.specs.declared.call.Call.TheVariants.{Store}
 use Rattle.cas_model.specs.declared.call.Reply.TheVariants as reply
 use Rattle.cas_model.specs.declared.call.Who.{Who}

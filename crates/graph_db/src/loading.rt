@@ -52,10 +52,12 @@ fn load_counted<L: Ledger, P: CellPort>(
         who,
         stage: Stage::Own,
     };
-    match seek(port, note, digest, &mut steps)? {
-        0 => Ok(None),
-        content => Ok(Some(read_object(alloc, port, Place { at: content })?)),
+    let content = seek(port, note, digest, &mut steps)?;
+    if content == 0 {
+        return Ok(None);
     }
+    let object = read_object(alloc, port, Place { at: content })?;
+    Ok(Some(object))
 }
 
 // The object that a published content describes.

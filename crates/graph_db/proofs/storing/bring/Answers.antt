@@ -1,4 +1,4 @@
-use Rattle.std.proofs.Common.{◌≡◌, arith}
+use Rattle.std.proofs.Common.{arith}
 use Rattle.cell_port.specs.declared.block.PortError.TheVariants.{Memory}
 use Rattle.graph_db.proofs.Brought.{begun, bind-stops, claim-stops, write-stopped, fill-whole, fill-stops, fill-brings}
 use Rattle.graph_db.proofs.Steps.{err-made}

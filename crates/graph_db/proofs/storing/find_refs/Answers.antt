@@ -1,6 +1,4 @@
-use Rattle.std.proofs.Common.{◌≡◌, Some, [], slice_get, get_or}
 use Rattle.std.proofs.lemmas.Option.{slice_get-get_or}
-use Rattle.cas_model.specs.declared.digest.Digest.{Digest}
 use Rattle.graph_db.specs.declared.error.StoreError.TheVariants.{Memory}
 use Rattle.graph_db.proofs.Found.{finds-none, finds-next, is-dangling, ref-stops, lawful-same-then}
 use Rattle.graph_db.proofs.Steps.{err-made, ends-on}

@@ -1,8 +1,6 @@
-use Rattle.std.proofs.Common.{◌≡◌}
 use Rattle.graph_db.specs.declared.error.StoreError.TheVariants.{Memory}
-use Rattle.graph_db.proofs.Found.{lawful-same-then}
 use Rattle.graph_db.proofs.Steps.{err-made}
-use Rattle.graph_db.proofs.Stored.{seek-refused, stored-found, stored-brought, bring-refused, miss-refs, miss-lacks, miss-missed, miss-speaks}
+use Rattle.graph_db.proofs.Stored.{seek-refused, stored-found, stored-brought, bring-refused, miss-refs, miss-lacks}
 use Rattle.graph_db.proofs.storing.store_counted.Goals as goal
 use Rattle.graph_db.proofs.storing.store_counted.Goals.{then-branch-eq0+in_ok-bring, else-branch-eq0}
 

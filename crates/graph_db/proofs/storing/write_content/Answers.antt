@@ -1,4 +1,4 @@
-use Rattle.std.proofs.Common.{◌∙◌, ◌+◌, arith}
+use Rattle.std.proofs.Common.{◌∙◌, arith}
 use Rattle.std.proofs.lemmas.Option.{slice_get-get_or}
 use Rattle.graph_db.proofs.Written.{ref-bound, write-head, write-opened, ref-opened, write-ref, write-data, write-done}
 use Rattle.graph_db.proofs.Steps.{lawful-then}
