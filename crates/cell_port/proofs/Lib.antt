@@ -7,3 +7,8 @@ pub mod PlainTies
 pub mod PlainBinds
 pub mod ContentWords
 pub mod ClaimLists
+pub mod PartsBuilt
+pub mod PartsObject
+pub mod PartsAction
+pub mod PartsLists
+pub mod PartsLoops

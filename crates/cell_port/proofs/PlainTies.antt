@@ -33,7 +33,7 @@ use Rattle.cell_port.proofs.RowsGrow.{rows-bound, rows-object, rows-action}
 use Rattle.cell_port.proofs.PlainOpens.{opens-more, opens-claim, opens-bind, opens-close, opens-write, opens-fill, opens-cell, open-free, open-length, length-written, with_record}
 
 -- a content has a word
-content-long : (up : State) (start : Tables) (seen : List Event) → IsLawfulRun up start seen → (n : ℕ) (ws : List ℕ) → 0 < n → words_at (tables start seen).blocks n ≡ Some ws → 0 < length ws
+pub content-long : (up : State) (start : Tables) (seen : List Event) → IsLawfulRun up start seen → (n : ℕ) (ws : List ℕ) → 0 < n → words_at (tables start seen).blocks n ≡ Some ws → 0 < length ws
 content-long up start seen lawful n ws some is = step used.1.found.space used.1.in_space names where
   s : Tables
   s = tables start seen
@@ -55,7 +55,7 @@ content-long up start seen lawful n ws some is = step used.1.found.space used.1.
       let words : named.0 ≡ ws = cc in
       subst (λ (x : List ℕ). 0 < length x) words (long named.0 (content-some named.0 named.2.content))
 
-length-none : (n : ℕ) → length (none_written n) ≡ n
+pub length-none : (n : ℕ) → length (none_written n) ≡ n
 length-none zero = refl
 length-none (suc n) = ap suc (length-none n)
 

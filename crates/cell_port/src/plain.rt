@@ -1,18 +1,22 @@
 // A port of one owner over plain lists.
 ghost use Rattle.std.specs.Prelude.{◌≡◌, ◌≤◌, ◌+◌, ◌*◌, ◌<◌, [], ◌∷◌, Some, None, false, IfOk, IfErr, OnOk, MatchResult};
+ghost use Rattle.cas_model.specs.Contents.{AreLawfulContents};
 ghost use Rattle.cas_model.specs.Tables.{empty_start};
 ghost use Rattle.cas_model.specs.Tables.{place_of};
 ghost use Rattle.cell_port.specs.Calls.{IsLawful, HasClaimed, ClaimRefused, BoundTo, BindRefused, Ticks, event_of};
+ghost use Rattle.cell_port.specs.Claims.{contents_claims, Refuses};
+ghost use Rattle.cell_port.specs.Parts.{OpensAt};
 ghost use Rattle.cell_port.specs.Plain.{bind_events, refused_events, HasSeen};
 ghost use Rattle.cell_port.specs.PlainView.{port_view, port_tables};
 
 use crate::digest_words::digest_word;
 use crate::moves::{bind_new, fill_cell, publish};
+use crate::parts::store_contents;
 use crate::searches::{take_open, whole_words, write_open};
 use crate::tables::PlainTables;
 use crate::{Block, Bound, CellPort, Filled, OpenBlock, PortError, Steps, Written};
 use cas_history::{Act, Event};
-use cas_model::{Digest, Full, NoUpstream, Note, Place, Space, Upstream};
+use cas_model::{Contents, Digest, Full, NoUpstream, Note, Place, Space, Upstream};
 use std::alloc::{AllocError, Global};
 use std::collections::VecDeque;
 use std::marker::Model;
@@ -57,6 +61,36 @@ impl<'u> PlainPort<'u, NoUpstream> {
             alloc,
             up: None,
             tables: PlainTables::new(alloc, size),
+            opened: VecDeque::new(alloc),
+            events: VecDeque::new(alloc),
+        })
+    }
+}
+
+impl<'u> PlainPort<'u, NoUpstream> {
+    /// A port of a region of so many words that is opened at contents, with no upstream. It has seen nothing: what the
+    /// contents hold is its start. `Full` where a claim passes the end: for each object its record, its subtries and its
+    /// content, and after the objects for each action its record and its subtries, in the contents' order; the numbers are
+    /// those of the first such claim.
+    pub fn from_parts(
+        alloc: Global,
+        contents: &Contents,
+        size: u64,
+    ) -> Result<PlainPort<'u, NoUpstream>, PortError>
+        requires least { 4096 ≤ size }
+        requires most { size ≤ 67108864 }
+        requires lawful { AreLawfulContents contents.now.objects.items contents.now.actions.items }
+        ensures up { IfOk result (λ port. port.up ≡ None) }
+        ensures start { IfOk result (λ port. OpensAt contents.now.objects.items contents.now.actions.items size port.start) }
+        ensures seen { IfOk result (λ port. port.seen ≡ []) }
+        ensures opened { IfOk result (λ port. port.opened ≡ []) }
+        ensures err { IfErr result (Refuses size 520 (contents_claims contents.now.objects.items contents.now.actions.items)) }
+    {
+        let tables = store_contents(alloc, contents, size)?;
+        Ok(PlainPort {
+            alloc,
+            up: None,
+            tables: tables.settled(),
             opened: VecDeque::new(alloc),
             events: VecDeque::new(alloc),
         })
