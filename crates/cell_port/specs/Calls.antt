@@ -181,7 +181,7 @@ pub record HasFilledPlace (note : Note) (cell : Place) (old new : View) (value :
 -- ---- word
 
 -- a word of a digest: eight of its bytes, the high one first
-abbrev pub digest_word : Digest → ℕ → ℕ
+unfoldable pub digest_word : Digest → ℕ → ℕ
 digest_word digest i = from_be_bytes w64 (drop (8 * i) digest.bytes)
 
 -- the place is that of a bound record or of a published content, which has a word at this index. A record shows four, its digest's

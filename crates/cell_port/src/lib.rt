@@ -3,9 +3,17 @@
 #![tactic(auto)]
 
 mod block;
+mod depth;
+mod digest_words;
+mod moves;
+mod plain;
 mod port;
+mod searches;
 mod steps;
+mod subtries;
+mod tables;
 
 pub use block::{Block, Bound, Filled, OpenBlock, PortError, Written};
+pub use plain::{Events, PlainPort};
 pub use port::CellPort;
 pub use steps::Steps;
