@@ -5,6 +5,8 @@ mod error;
 mod loading;
 mod seeking;
 mod storing;
+#[cfg(test)]
+mod tests;
 
 pub use error::StoreError;
 pub use loading::load;
