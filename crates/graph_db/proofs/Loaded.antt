@@ -199,6 +199,7 @@ length-eight (suc n) [] le = absurd (omega arith)
 length-eight (suc n) (x ∷ xs) le = length-eight n xs (omega (arith, le))
 
 word-back : (d : Digest) (i word : ℕ) → length d.bytes ≡ 32 → AreBytes d.bytes → i < 4 → word ≡ digest_word d i → to_be_bytes w64 word ≡ take 8 (drop (8 * i) d.bytes)
+unfolding digest_word
 word-back d i word long ok lt is =
     be_bytes_8 (take 8 (drop (8 * i) d.bytes)) word (length-eight (8 * i) d.bytes (omega (arith, long, lt)))
     (get-bytes (take 8 (drop (8 * i) d.bytes)) (take-bytes 8 (drop (8 * i) d.bytes) (drop-bytes (8 * i) d.bytes ok))) (is ∙ sym (first-eight (drop (8 * i) d.bytes)))
