@@ -6,6 +6,7 @@ mod front;
 mod input;
 mod output;
 mod run;
+mod store_run;
 mod streams;
 #[cfg(test)]
 mod tests;

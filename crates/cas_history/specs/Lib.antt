@@ -1,0 +1,14 @@
+pub mod Run
+pub mod Answers
+pub mod Carried
+pub mod Lawful
+pub mod Grows
+pub mod History
+pub mod Conduct
+pub mod Cost
+pub mod Script
+pub mod End
+pub mod Changes
+pub mod Laws
+pub mod Theorem
+pub mod Replays

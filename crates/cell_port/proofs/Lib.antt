@@ -1,0 +1,14 @@
+pub mod Opened
+pub mod RowLists
+pub mod Depths
+pub mod PlainOpens
+pub mod RowsGrow
+pub mod PlainTies
+pub mod PlainBinds
+pub mod ContentWords
+pub mod ClaimLists
+pub mod PartsBuilt
+pub mod PartsObject
+pub mod PartsAction
+pub mod PartsLists
+pub mod PartsLoops

@@ -1,0 +1,5 @@
+use Rattle.cell_port.proofs.PartsLoops.{opens-at}
+use Rattle.cell_port.proofs.plain.PlainPort+NoUpstream.from_parts.Goals as goal
+
+pub returns-clause-start : goal.returns-clause-start
+returns-clause-start c = rw c.settled.ensures (opens-at c.args.size _ _ _ c.requires.lawful c.in_ok-tables.ensures.ok)

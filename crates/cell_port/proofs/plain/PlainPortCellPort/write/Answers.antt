@@ -1,0 +1,5 @@
+use Rattle.cell_port.proofs.PlainTies.{tied-write}
+use Rattle.cell_port.proofs.plain.PlainPortCellPort.write.Goals as goal
+
+pub invariant_of-self : goal.invariant_of-self
+invariant_of-self g c = rw c.write_open.ensures (tied-write _ _ _ _ c.self.invariant _ _ _)

@@ -1,0 +1,11 @@
+pub mod Blank
+pub mod View
+pub mod Calls
+pub mod Tables
+pub mod Needed
+pub mod Depth
+pub mod FilledRows
+pub mod Plain
+pub mod PlainView
+pub mod Claims
+pub mod Parts

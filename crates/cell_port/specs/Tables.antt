@@ -1,0 +1,37 @@
+-- What a plain port keeps: the tables of its start, and the rows that stand now, the newest first.
+use Rattle.std.specs.Prelude.{ℕ, suc, List, [], ◌∷◌, cond, ◌==◌}
+use Rattle.cas_model.specs.declared.digest.Digest.{Digest}
+use Rattle.cas_model.specs.declared.place.Space.{Space}
+use Rattle.cas_model.specs.declared.tables.Cell.{Cell}
+use Rattle.cas_model.specs.declared.tables.Content.{Content}
+use Rattle.cas_model.specs.declared.tables.Record.{Record}
+use Rattle.cas_model.specs.Tables.{Tables, same_space, empty_start}
+use Rattle.cell_port.specs.declared.block.OpenBlock.{OpenBlock}
+
+-- the rows at the start, and now. Places and the counter are in words
+pub record PlainRows : Type 0 where
+  pub start : Tables
+  pub counter : ℕ
+  pub bound : List Record
+  pub filled : List Cell
+  pub blocks : List Content
+
+-- nothing is stored
+abbrev pub empty_rows : ℕ → PlainRows
+empty_rows size = record { start = empty_start size; counter = 520; bound = []; filled = []; blocks = [] }
+
+-- the rows now, as the tables of a start
+abbrev pub as_start : PlainRows → Tables
+as_start r = record { size = r.start.size; counter = r.counter; given = r.counter; bound = r.bound; filled = r.filled; blocks = r.blocks; claims = [] }
+
+-- ---- searches
+
+-- the value of the first row of a cell, or another one
+abbrev pub cell_or : List Cell → ℕ → ℕ → ℕ
+cell_or [] n otherwise = otherwise
+cell_or (c ∷ cs) n otherwise = cond (c.of.at == n) c.value (cell_or cs n otherwise)
+
+-- the index of the first open block at a place, or how many open blocks there are
+abbrev pub first_at : List OpenBlock → ℕ → ℕ
+first_at [] place = 0
+first_at (o ∷ os) place = cond (o.place == place) 0 (suc (first_at os place))

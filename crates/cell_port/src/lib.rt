@@ -1,0 +1,20 @@
+//! The boundary between the structure of a store and the words of a region: a port, whose calls are events of one
+//! history.
+#![tactic(auto)]
+
+mod block;
+mod depth;
+mod digest_words;
+mod moves;
+mod parts;
+mod plain;
+mod port;
+mod searches;
+mod steps;
+mod subtries;
+mod tables;
+
+pub use block::{Block, Bound, Filled, OpenBlock, PortError, Written};
+pub use plain::{Events, PlainPort};
+pub use port::CellPort;
+pub use steps::Steps;

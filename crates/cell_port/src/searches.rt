@@ -1,0 +1,124 @@
+// Searches in lists of rows, and in the open blocks of a port.
+ghost use Rattle.std.specs.Prelude.{◌≡◌, ◌<◌, ◌↔◌, length, IfOk, IfSome, IsSome, option_copied};
+ghost use Rattle.cas_model.specs.Tables.{place_of, record_at, words_at, same_space, same_digest};
+ghost use Rattle.cell_port.specs.View.{open_words, write_word, close_block, written_words};
+ghost use Rattle.cell_port.specs.Tables.{cell_or, first_at};
+
+use crate::{OpenBlock, Written};
+use cas_model::{Cell, Content, Digest, Place, Record, Space, Words};
+use std::alloc::{AllocError, Global};
+use std::collections::VecDeque;
+
+pub fn is_same_space(a: Space, b: Space) -> bool
+    ensures { result ≡ same_space a b }
+{
+    match (a, b) {
+        (Space::Objects, Space::Objects) => true,
+        (Space::Actions, Space::Actions) => true,
+        (Space::Objects, Space::Actions) => false,
+        (Space::Actions, Space::Objects) => false,
+    }
+}
+
+pub fn is_same_digest(a: &Digest, b: &Digest) -> bool
+    ensures { result ≡ same_digest a.now b.now }
+{
+    a.bytes == b.bytes
+}
+
+/// The place to which the first row binds a digest.
+pub fn find_place(records: &VecDeque<Record>, space: Space, digest: &Digest) -> Option<Place>
+    ensures { result ≡ place_of records.now.items space digest.now }
+{
+    for i in 0..records.len() {
+        let r = &records[i];
+        if is_same_space(r.space, space) && is_same_digest(&r.digest, digest) {
+            return Some(r.place);
+        }
+    }
+    None
+}
+
+/// The first row of the record at a place.
+pub fn find_record(records: &VecDeque<Record>, place: Place) -> Option<Record>
+    ensures { result ≡ record_at records.now.items place.at }
+{
+    for i in 0..records.len() {
+        let r = &records[i];
+        if r.place.at == place.at {
+            return Some(*r);
+        }
+    }
+    None
+}
+
+/// The value that the first row of a cell has, or another one where there is no row.
+pub fn cell_value(cells: &VecDeque<Cell>, of: Place, otherwise: u64) -> u64
+    ensures { result ≡ cell_or cells.now.items of.at otherwise }
+{
+    for i in 0..cells.len() {
+        let c = &cells[i];
+        if c.of.at == of.at {
+            return c.value;
+        }
+    }
+    otherwise
+}
+
+/// The words of the first content at a place.
+pub fn find_words(contents: &VecDeque<Content>, place: u64) -> Option<&[u64]>
+    ensures { option_copied result ≡ words_at contents.now.items place }
+{
+    for i in 0..contents.len() {
+        let c = &contents[i];
+        if c.place == place {
+            return Some(c.words.list());
+        }
+    }
+    None
+}
+
+fn find_open(opened: &VecDeque<OpenBlock>, place: u64) -> usize
+    ensures { result ≡ first_at opened.now.items place }
+{
+    for i in 0..opened.len() {
+        if opened[i].place == place {
+            return i;
+        }
+    }
+    opened.len()
+}
+
+/// Writes one word of an open block.
+pub fn write_open(opened: &mut VecDeque<OpenBlock>, place: u64, index: u64, word: u64)
+    requires { index < length (open_words opened.old.items place) }
+    ensures { opened.new.items ≡ write_word opened.old.items place index word }
+{
+    let i = find_open(opened, place);
+    if i < opened.len() {
+        opened[i].words.set(index, word);
+    }
+}
+
+/// Takes the block at a place out of the open ones.
+pub fn take_open(opened: &mut VecDeque<OpenBlock>, place: u64) -> Option<OpenBlock>
+    ensures closed { opened.new.items ≡ close_block opened.old.items place }
+    ensures words { IfSome result (λ o. o.words ≡ open_words opened.old.items place) }
+    ensures found { IsSome result ↔ (first_at opened.old.items place < length opened.old.items) }
+{
+    let i = find_open(opened, place);
+    if i < opened.len() {
+        opened.remove(i)
+    } else {
+        None
+    }
+}
+
+/// The words that were written, with 0 for the others.
+pub fn whole_words(alloc: Global, words: &Written) -> Result<Words, AllocError>
+    ensures { IfOk result (λ list. list ≡ written_words words.now) }
+{
+    Ok(Words::of(
+        words.list().iter().map(|w| w.unwrap_or(0)).collect(alloc)?,
+    ))
+}

@@ -1,0 +1,204 @@
+// The rows that a plain port keeps.
+ghost use Rattle.std.specs.Prelude.{◌≡◌, ◌+◌, ◌≤◌, [], ◌∷◌, Some, option_copied, OnOk, OnErr};
+ghost use Rattle.cas_model.specs.Tables.{place_of, record_at, cell_of, words_at, empty_start};
+ghost use Rattle.cell_port.specs.Needed.{needed};
+ghost use Rattle.cell_port.specs.Tables.{empty_rows, as_start};
+
+use crate::depth::deepest;
+use crate::searches::{cell_value, find_place, find_record, find_words};
+use crate::subtries::Deepest;
+use cas_model::{Cell, Content, Digest, Place, Record, Space, Words};
+use std::alloc::{AllocError, Global};
+use std::collections::VecDeque;
+use std::marker::Model;
+
+/// The tables of a region as plain lists, each with the newest row first: the rows of the start, and those that came
+/// after it.
+#[derive(Drop)]
+pub struct PlainTables {
+    size: u64,
+    began: u64,
+    counter: u64,
+    old_records: VecDeque<Record>,
+    old_cells: VecDeque<Cell>,
+    old_contents: VecDeque<Content>,
+    records: VecDeque<Record>,
+    cells: VecDeque<Cell>,
+    contents: VecDeque<Content>,
+}
+
+impl Model for PlainTables {
+    ghost use Rattle.std.specs.Prelude.{◌≤◌, ◌++◌, []};
+    ghost use Rattle.cell_port.specs.Tables.{PlainRows};
+
+    ghost Value = { PlainRows };
+
+    ghost view = { λ t. record {
+        start = record { size = t.size; counter = t.began; given = t.began; bound = t.old_records.items; filled = t.old_cells.items; blocks = t.old_contents.items; claims = [] };
+        counter = t.counter;
+        bound = t.records.items ++ t.old_records.items;
+        filled = t.cells.items ++ t.old_cells.items;
+        blocks = t.contents.items ++ t.old_contents.items;
+    } };
+
+    ghost invariant = { λ t. (t.counter ≤ t.size) × (t.size ≤ 67108864) };
+}
+
+impl PlainTables {
+    /// The tables of a region of so many words in which nothing is stored.
+    pub fn new(alloc: Global, size: u64) -> PlainTables
+        requires least { 4096 ≤ size }
+        requires most { size ≤ 67108864 }
+        ensures { result ≡ empty_rows size }
+    {
+        PlainTables {
+            size,
+            began: 520,
+            counter: 520,
+            old_records: VecDeque::new(alloc),
+            old_cells: VecDeque::new(alloc),
+            old_contents: VecDeque::new(alloc),
+            records: VecDeque::new(alloc),
+            cells: VecDeque::new(alloc),
+            contents: VecDeque::new(alloc),
+        }
+    }
+
+    pub fn size(&self) -> u64
+        ensures size { result ≡ self.now.start.size }
+        ensures small { result ≤ 67108864 }
+    {
+        self.size
+    }
+
+    pub fn counter(&self) -> u64
+        ensures counter { result ≡ self.now.counter }
+        ensures within { result ≤ self.now.start.size }
+    {
+        self.counter
+    }
+
+    /// The place to which a digest is bound.
+    pub fn place_of(&self, space: Space, digest: &Digest) -> Option<Place>
+        ensures { result ≡ place_of self.now.bound space digest.now }
+    {
+        match find_place(&self.records, space, digest) {
+            Some(place) => Some(place),
+            None => find_place(&self.old_records, space, digest),
+        }
+    }
+
+    /// The record at a place.
+    pub fn record_at(&self, place: Place) -> Option<Record>
+        ensures { result ≡ record_at self.now.bound place.at }
+    {
+        match find_record(&self.records, place) {
+            Some(record_) => Some(record_),
+            None => find_record(&self.old_records, place),
+        }
+    }
+
+    /// The value of the cell of the record at a place.
+    pub fn cell_of(&self, place: Place) -> u64
+        ensures { result ≡ cell_of self.now.filled place.at }
+    {
+        cell_value(&self.cells, place, cell_value(&self.old_cells, place, 0))
+    }
+
+    /// The words of the content at a place.
+    pub fn words_at(&self, place: u64) -> Option<&[u64]>
+        ensures { option_copied result ≡ words_at self.now.blocks place }
+    {
+        match find_words(&self.contents, place) {
+            Some(words) => Some(words),
+            None => find_words(&self.old_contents, place),
+        }
+    }
+
+    /// How many subtries a digest needs that the bound digests of its space do not need already.
+    pub fn new_subtries(&self, space: Space, digest: &Digest) -> u64
+        ensures count { result ≡ needed self.now.bound space digest.now }
+        ensures most { result ≤ 62 }
+    {
+        let none = Deepest {
+            first: 0,
+            second: 0,
+        };
+        let before = deepest(&self.old_records, space, digest, none);
+        let all = deepest(&self.records, space, digest, before);
+        all.first - all.second
+    }
+
+    /// Moves the counter.
+    pub fn advance(&mut self, words: u64)
+        requires { self.old.counter + words ≤ self.old.start.size }
+        ensures { self.new ≡ record self.old { counter = self.old.counter + words } }
+    {
+        self.counter += words;
+    }
+
+    /// Binds a digest.
+    pub fn bind(&mut self, record_: Record) -> Result<(), AllocError>
+        ensures ok { OnOk result (self.new ≡ record self.old { bound = record_ ∷ self.old.bound }) }
+        ensures err { OnErr result (self.new ≡ self.old) }
+    {
+        self.records.push_front(record_)?;
+        Ok(())
+    }
+
+    /// Fills a cell with the place of a content, and publishes its words.
+    pub fn publish(&mut self, of: Place, value: u64, words: Words) -> Result<(), AllocError>
+        ensures ok { OnOk result (self.new ≡ record self.old {
+            filled = (record { of = of; value = value }) ∷ self.old.filled;
+            blocks = (record { place = value; words = words }) ∷ self.old.blocks;
+        }) }
+        ensures err { OnErr result (self.new ≡ self.old) }
+    {
+        self.cells.reserve(1)?;
+        self.contents.reserve(1)?;
+        self.cells.push_front_reserved(Cell { of, value });
+        self.contents.push_front_reserved(Content {
+            place: value,
+            words,
+        });
+        Ok(())
+    }
+
+    /// Fills a cell with the place of a record.
+    pub fn fill(&mut self, of: Place, value: u64) -> Result<(), AllocError>
+        ensures ok { OnOk result (self.new ≡ record self.old { filled = (record { of = of; value = value }) ∷ self.old.filled }) }
+        ensures err { OnErr result (self.new ≡ self.old) }
+    {
+        self.cells.push_front(Cell { of, value })?;
+        Ok(())
+    }
+
+    /// The rows as they stand, as those of a start.
+    pub fn settled(self) -> PlainTables
+        requires { self.start ≡ empty_start self.start.size }
+        ensures { result ≡ record self { start = as_start self } }
+    {
+        let PlainTables {
+            size,
+            began: _,
+            counter,
+            old_records: no_records,
+            old_cells: no_cells,
+            old_contents: no_contents,
+            records,
+            cells,
+            contents,
+        } = self;
+        PlainTables {
+            size,
+            began: counter,
+            counter,
+            old_records: records,
+            old_cells: cells,
+            old_contents: contents,
+            records: no_records,
+            cells: no_cells,
+            contents: no_contents,
+        }
+    }
+}
