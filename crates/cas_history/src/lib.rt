@@ -16,7 +16,8 @@ pub use entry::{Asked, Entry};
 pub use error::ReplayError;
 pub use event::{Act, Answer, Event};
 pub use laws::{
-    blocks_fit, costs_leave_room, ends_are_starts, events_change_their_kind, runs_grow, sessions_stay_apart,
+    blocks_fit, costs_leave_room, ends_are_starts, events_change_their_kind, runs_grow,
+    sessions_stay_apart,
 };
 pub use replay::Replay;
 pub use rows::{ClaimedBlock, Rows};
