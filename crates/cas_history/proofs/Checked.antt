@@ -1,5 +1,5 @@
 -- What the checks of an event find.
-use Rattle.std.proofs.Common.{◌≡◌, ℕ, zero, suc, ◌+◌, ◌*◌, ◌<◌, ◌≤◌, List, [], ◌∷◌, ◌++◌, ◌⊎◌, Bool, true, false, ◌&&◌, inl, inr, None, Some, IsSome, length, drop, drop-drop, get_or, refl, ap, sym, ◌∙◌, subst, arith, append_assoc, w64}
+use Rattle.std.proofs.Common.{◌≡◌, ℕ, zero, suc, ◌+◌, ◌*◌, ◌<◌, List, [], ◌∷◌, ◌++◌, Bool, false, inl, inr, IsSome, length, drop, drop-drop, get_or, refl, ap, sym, ◌∙◌, subst, arith, append_assoc, w64}
 use Rattle.std.specs.Bool.{Decides}
 use Rattle.std.specs.Int.{from_le_bytes}
 use Rattle.cas_model.specs.Content.{words_from, data_word_at}

@@ -1,5 +1,5 @@
 -- Where there is room for the costs of all calls, no claim is refused.
-use Rattle.std.proofs.Common.{◌≡◌, ℕ, ◌+◌, ◌≤◌, ◌<◌, List, [], ◌∷◌, Bool, true, false, cond, ◌&&◌, ◌==◌, ◌⊎◌, inl, inr, Some, refl, ap, sym, ◌∙◌, subst, arith}
+use Rattle.std.proofs.Common.{◌≡◌, ℕ, ◌+◌, ◌≤◌, List, [], ◌∷◌, true, false, cond, ◌&&◌, ◌==◌, inl, inr, refl, ap, sym, ◌∙◌, arith}
 use Rattle.std.specs.declared.option.Option.{Option}
 use Rattle.std.proofs.lemmas.Bool.{eq-eqb}
 use Rattle.cas_model.specs.declared.call.Call.{Call}
@@ -11,7 +11,7 @@ use Rattle.cas_history.specs.declared.event.Act.{Act}
 use Rattle.cas_history.specs.declared.event.Act.TheVariants.{Look, Bind, Read, Claim, Room, Fill}
 use Rattle.cas_history.specs.declared.event.Event.{Event}
 use Rattle.cas_history.specs.Conduct.{same_who}
-use Rattle.cas_history.specs.Cost.{asked_by, asked, asked_by_all, IsWithinCost, AreWithinCost, HasRoomFor}
+use Rattle.cas_history.specs.Cost.{asked_by, asked, asked_by_all, AreWithinCost, HasRoomFor}
 use Rattle.cas_history.specs.Laws.{IsAmong, AreOf, AskForCosts, NoneRefused, is_refused}
 use Rattle.cas_history.specs.Lawful.{IsLawfulRun}
 use Rattle.cas_history.proofs.Others.{room-asked}

@@ -1,5 +1,5 @@
 -- What the first of a list does in the map of the list.
-use Rattle.std.proofs.Common.{◌≡◌, ℕ, suc, ◌+◌, ◌<◌, ◌≤◌, List, [], ◌∷◌, ◌++◌, Bool, true, false, cond, None, Some, length, take, drop, get_or, refl, ap, sym, ◌∙◌, subst, arith, add-one, append_assoc, append-nil, w64}
+use Rattle.std.proofs.Common.{◌≡◌, ℕ, suc, ◌+◌, ◌<◌, ◌≤◌, List, [], ◌∷◌, ◌++◌, Bool, true, false, cond, None, Some, length, take, drop, get_or, refl, ap, sym, ◌∙◌, add-one, append_assoc, append-nil, w64}
 use Rattle.std.proofs.lemmas.List.{take_more, drop_all}
 use Rattle.std.specs.Int.{to_le_bytes}
 use Rattle.std.proofs.Math.Seq.{drop-cons}

@@ -50,7 +50,7 @@ impl Replay {
         }
     }
 
-    /// The replay of these events, the oldest first.
+    /// The replay of these events, the oldest first. It fails where `push` of one of them does.
     pub fn of(
         alloc: Global,
         start: Rows,

@@ -1,4 +1,4 @@
-use Rattle.std.proofs.Common.{◌≡◌, sym, ◌∙◌, arith}
+use Rattle.std.proofs.Common.{◌≡◌, sym, ◌∙◌}
 use Rattle.cas_model.specs.Object.{object_digest}
 use Rattle.cas_history.proofs.Firsts.{object-hit, object-miss, no-object}
 use Rattle.cas_history.proofs.below.object_under.Goals as goal

@@ -1,4 +1,4 @@
-use Rattle.std.proofs.Common.{◌≡◌, sym, ◌∙◌, refl}
+use Rattle.std.proofs.Common.{sym, ◌∙◌, refl}
 use Rattle.cas_history.proofs.Firsts.{value-hit, value-miss, no-value}
 use Rattle.cas_history.proofs.below.value_under.Goals as goal
 

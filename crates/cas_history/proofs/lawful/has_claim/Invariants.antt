@@ -1,6 +1,5 @@
 -- the claim is not among those so far
 use Rattle.std.proofs.Common.{drop}
-use Rattle.std.specs.Prelude.{◌↔◌}
 use Rattle.cas_model.specs.Tables.{HasClaim}
 use Rattle.cas_history.proofs.lawful.has_claim.Given as goal
 

@@ -1,4 +1,3 @@
-use Rattle.std.proofs.Common.{◌≡◌}
 use Rattle.cas_history.proofs.Firsts.{bytes-more}
 use Rattle.cas_history.proofs.reading.bytes_of_words.Goals as goal
 

@@ -1,4 +1,3 @@
-use Rattle.std.proofs.Common.{◌≡◌}
 use Rattle.cas_history.proofs.Firsts.{digests-more}
 use Rattle.cas_history.proofs.Checked.{record-there}
 use Rattle.cas_history.proofs.rows.Rows.digests_at.Goals as goal

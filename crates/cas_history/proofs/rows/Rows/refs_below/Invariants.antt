@@ -1,5 +1,5 @@
 -- the places so far are those of such records
-use Rattle.std.proofs.Common.{take, drop}
+use Rattle.std.proofs.Common.{drop}
 use Rattle.std.specs.Prelude.{◌↔◌}
 use Rattle.cas_model.specs.Start.{RefsBelow}
 use Rattle.cas_history.proofs.rows.Rows.refs_below.Given as goal
