@@ -7,11 +7,10 @@ use Rattle.cas_model.specs.declared.digest.Digest.{Digest}
 use Rattle.cas_model.specs.declared.place.Place.{Place}
 use Rattle.cas_model.specs.declared.place.Space.{Space}
 use Rattle.cas_model.specs.declared.tables.Content.{Content}
-use Rattle.cas_model.specs.declared.tables.Record.{Record}
 use Rattle.cas_model.specs.Tables.{Tables, place_of, record_at, cell_of, words_at, is_for}
 use Rattle.cas_history.specs.declared.event.Act.{Act}
 use Rattle.cas_history.specs.declared.event.Act.TheVariants.{Look, Bind, Read, Claim, Room, Fill}
-use Rattle.cas_history.specs.Changes.{Changes, BindsOne, FillsOne, BindChanges, FillChanges, Publishes}
+use Rattle.cas_history.specs.Changes.{Changes, BindsOne, BindChanges, FillChanges, Publishes}
 use Rattle.cas_history.specs.Run.{after_act, bound_by, filled_by, published}
 use Rattle.cas_history.proofs.Grown.{for-is, for-self}
 

@@ -1,5 +1,5 @@
 -- The end of a lawful run and an empty region are lawful starts.
-use Rattle.std.proofs.Common.{◌≡◌, ℕ, ◌+◌, ◌≤◌, ◌<◌, ◌⊎◌, List, [], inl, inr, refl, sym, ◌∙◌, arith, min}
+use Rattle.std.proofs.Common.{◌≡◌, ℕ, ◌+◌, ◌≤◌, List, inl, inr, refl, arith, min}
 use Rattle.cas_model.specs.Start.{IsLawfulStart, IsNamed}
 use Rattle.cas_model.specs.State.{State}
 use Rattle.cas_model.specs.Tables.{Tables, cell_of, empty_start}

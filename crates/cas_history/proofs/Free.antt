@@ -1,5 +1,5 @@
 -- A free block of a call stays free while other calls go on.
-use Rattle.std.proofs.Common.{◌≡◌, ◌≢◌, ℕ, zero, suc, ◌+◌, ◌<◌, ◌≤◌, List, [], ◌∷◌, ◌++◌, Bool, true, false, cond, ◌==◌, ◌⊎◌, inl, inr, None, Some, length, refl, ap, sym, ◌∙◌, arith}
+use Rattle.std.proofs.Common.{◌≡◌, ◌≢◌, ℕ, zero, suc, ◌+◌, ◌<◌, ◌≤◌, List, [], ◌∷◌, ◌++◌, Bool, true, false, cond, ◌==◌, ◌⊎◌, inl, inr, None, Some, length, refl, arith}
 use Rattle.std.specs.declared.option.Option.{Option}
 use Rattle.std.proofs.lemmas.Bool.{eqb-true}
 use Rattle.cas_model.specs.declared.digest.Digest.{Digest}
@@ -12,7 +12,7 @@ use Rattle.cas_history.specs.declared.event.Act.{Act}
 use Rattle.cas_history.specs.declared.event.Act.TheVariants.{Look, Bind, Read, Claim, Room, Fill}
 use Rattle.cas_history.specs.declared.event.Event.{Event}
 use Rattle.cas_model.specs.declared.tables.Record.{Record}
-use Rattle.cas_model.specs.Tables.{Tables, Claimed, place_of, record_at, cell_of, HasClaim}
+use Rattle.cas_model.specs.Tables.{Tables, place_of, record_at, cell_of, HasClaim}
 use Rattle.cas_history.specs.Run.{tables, after_act, bound_by, filled_by}
 use Rattle.cas_history.specs.Lawful.{IsLawfulRun, IsFreeBlock, MayHappen, MayBind, MayFill, MayFillAt}
 use Rattle.cas_history.specs.Laws.{AreOfOthers}

@@ -31,7 +31,7 @@ use Rattle.cas_history.specs.Carried.{filled_state, state_filled_by, carried_by}
 use Rattle.cas_history.specs.History.{history, decided, decided_at, with_entry, with_event, is_miss, read_by, value_left, reply_where, reply_with, is_absent, dangling, loaded, got}
 use Rattle.cas_history.specs.Conduct.{HasConduct, MayAct, MayMake, MayLookFor, MayStore, MayLoad, MayPut, MayGet, MayBring, IsAbout, IsValue, AreThere}
 use Rattle.cas_model.proofs.Maps.{put-there}
-use Rattle.cas_history.proofs.Grown.{size-same, grows-act}
+use Rattle.cas_history.proofs.Grown.{size-same}
 use Rattle.cas_history.proofs.Sound.{IsSound, sound-run}
 use Rattle.cas_history.proofs.Under.{primary-act, value-at}
 use Rattle.cas_history.proofs.Visible.{miss-empty, read-shows, cell-has, see-object, see-value, see-own, over-filled, there-all, taken-at, plus-zero, refs_of}

@@ -13,3 +13,7 @@ pub mod Promised
 pub mod Others
 pub mod Indexes
 pub mod Changed
+pub mod Firsts
+pub mod Checked
+pub mod Stays
+pub mod Costs

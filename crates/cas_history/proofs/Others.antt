@@ -8,10 +8,8 @@ use Rattle.cas_model.specs.declared.object.Object.{Object}
 use Rattle.cas_model.specs.declared.call.Call.{Call}
 use Rattle.cas_model.specs.declared.call.Call.TheVariants.{Load}
 use Rattle.cas_model.specs.declared.note.Note.{Note}
-use Rattle.cas_model.specs.declared.place.Place.{Place}
 use Rattle.cas_model.specs.declared.call.Reply.{Reply}
 use Rattle.cas_model.specs.declared.call.Reply.TheVariants.{Found, Missing}
-use Rattle.cas_model.specs.declared.place.Space.{Space}
 use Rattle.cas_model.specs.declared.place.Space.TheVariants.{Objects}
 use Rattle.cas_model.specs.declared.note.Stage.{Stage}
 use Rattle.cas_model.specs.declared.note.Stage.TheVariants.{Ref, Own, Key, Deep}
@@ -23,7 +21,7 @@ use Rattle.cas_history.specs.declared.event.Act.{Act}
 use Rattle.cas_history.specs.declared.event.Act.TheVariants.{Look, Bind, Read, Claim, Room, Fill}
 use Rattle.cas_history.specs.declared.event.Event.{Event}
 use Rattle.cas_model.specs.Tables.{Tables, place_of, cell_of}
-use Rattle.cas_history.specs.Run.{tables, after_act, bound_by, filled_by}
+use Rattle.cas_history.specs.Run.{tables, after_act}
 use Rattle.cas_history.specs.Lawful.{IsLawfulRun}
 use Rattle.cas_model.specs.Primary.{object_in, object_under}
 use Rattle.cas_history.specs.History.{history, decided, with_entry, with_event, count_of, of_session, events_of, read_by, is_absent, loaded}

@@ -1,5 +1,5 @@
 -- Where the blocks of a run lie: each named block is the start's or a claim's, and no two have a common word.
-use Rattle.std.proofs.Common.{◌≡◌, ◌≢◌, ℕ, zero, suc, ◌+◌, ◌<◌, ◌≤◌, List, [], ◌∷◌, Bool, true, false, cond, ◌==◌, ◌⊎◌, inl, inr, None, Some, is_some, IsSome, length, refl, ap, sym, ◌∙◌, subst, arith, min}
+use Rattle.std.proofs.Common.{◌≡◌, ℕ, zero, suc, ◌+◌, ◌<◌, ◌≤◌, List, [], ◌∷◌, Bool, true, false, cond, ◌==◌, ◌⊎◌, inl, inr, None, Some, is_some, IsSome, length, refl, ap, sym, ◌∙◌, subst, arith}
 use Rattle.std.specs.declared.option.Option.{Option}
 use Rattle.std.proofs.lemmas.Bool.{eqb-true, eq-eqb}
 use Rattle.cas_model.specs.declared.digest.Digest.{Digest}
@@ -13,12 +13,11 @@ use Rattle.cas_history.specs.declared.event.Act.TheVariants.{Look, Bind, Read, C
 use Rattle.cas_model.specs.declared.tables.Content.{Content}
 use Rattle.cas_history.specs.declared.event.Event.{Event}
 use Rattle.cas_model.specs.declared.tables.Record.{Record}
-use Rattle.cas_history.specs.End.{ended}
 use Rattle.cas_model.specs.Tables.{Tables, Claimed, place_of, record_at, cell_of, words_at, HasClaim}
 use Rattle.cas_history.specs.Run.{tables, after_act, bound_by, filled_by, published}
 use Rattle.cas_history.specs.Lawful.{IsLawfulRun, IsFreeBlock, MayHappen, MayBind, MayFill, MayFillAt}
-use Rattle.cas_model.specs.Start.{IsLawfulStart, IsRecord, IsNamed}
-use Rattle.cas_history.proofs.Grown.{Grows, room-grows, names-last}
+use Rattle.cas_model.specs.Start.{IsLawfulStart, IsRecord}
+use Rattle.cas_history.proofs.Grown.{room-grows}
 use Rattle.cas_history.proofs.Sound.{IsSound, sound-run}
 
 -- the claims lie one above the other, from the first number to the second

@@ -91,6 +91,10 @@ abbrev pub loaded : State → Tables → Digest → Act → ℕ → Option Reply
 loaded up s d act zero = reply_where (is_absent up s act d) Missing
 loaded up s d act (suc cell) = option_map (λ o. Found o) (object_in s (suc cell))
 
+-- a put's event of its key finds or fills the cell
+abbrev pub kept : Tables → ℕ → Option Reply
+kept s cell = reply_with cell (λ n. Some (Kept (digest_at s.bound n)))
+
 -- a get's event of its key finds or fills the cell, or finds that the key is absent
 abbrev pub got : State → Tables → Digest → Act → ℕ → Option Reply
 got up s k act zero = reply_where (is_miss s act && is_none (fin.get up.cache k)) Miss
@@ -102,7 +106,7 @@ decided_at up s (Store o) (Ref i) act = dangling up s i (slice_get o.refs i) act
 decided_at up s (Store o) Own act = reply_with (left_by s act) (λ _. Some (Stored (object_digest o)))
 decided_at up s (Load d) Own act = loaded up s d act (read_by s act)
 decided_at up s (Put k v) (Ref i) act = dangling up s i (slice_get (v ∷ []) i) act
-decided_at up s (Put k v) Key act = reply_with (left_by s act) (λ cell. Some (Kept (digest_at s.bound cell)))
+decided_at up s (Put k v) Key act = kept s (left_by s act)
 decided_at up s (Get k) Key act = got up s k act (left_by s act)
 decided_at up s call stage act = None
 

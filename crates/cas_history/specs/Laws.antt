@@ -1,21 +1,23 @@
 -- What holds of each run as it goes on. Events are listed with the newest first, so `more ++ seen` goes on from `seen`.
-use Rattle.std.specs.Prelude.{◌≡◌, ◌≢◌, ℕ, ◌+◌, ◌<◌, ◌≤◌, ◌⊎◌, Bool, true, false, None, Some, List, [], ◌∷◌, ◌++◌, length}
+use Rattle.std.specs.Prelude.{◌≡◌, ◌≢◌, ℕ, ◌+◌, ◌<◌, ◌≤◌, ◌⊎◌, Bool, true, false, None, Some, List, [], ◌∷◌, ◌++◌}
 use Rattle.std.specs.declared.option.Option.{Option}
 use Rattle.cas_model.specs.declared.call.Call.{Call}
 use Rattle.cas_model.specs.declared.call.Who.{Who}
 use Rattle.cas_model.specs.declared.digest.Digest.{Digest}
 use Rattle.cas_model.specs.declared.note.Note.{Note}
+use Rattle.cas_model.specs.declared.place.Place.{Place}
+use Rattle.cas_model.specs.declared.place.Space.{Space}
 use Rattle.cas_model.specs.declared.tables.Record.{Record}
 use Rattle.cas_model.specs.Primary.{primary}
 use Rattle.cas_model.specs.Start.{IsLawfulStart, IsNamed}
 use Rattle.cas_model.specs.State.{State, empty_state}
-use Rattle.cas_model.specs.Tables.{Tables, HasClaim, record_at, empty_start}
+use Rattle.cas_model.specs.Tables.{Tables, HasClaim, place_of, record_at, cell_of, empty_start}
 use Rattle.cas_history.specs.declared.event.Act.{Act}
 use Rattle.cas_history.specs.declared.event.Act.TheVariants.{Look, Bind, Read, Claim, Room, Fill}
 use Rattle.cas_history.specs.declared.event.Event.{Event}
 use Rattle.cas_history.specs.Changes.{Changes}
 use Rattle.cas_history.specs.Conduct.{HasConduct, CallOpen, MayAct}
-use Rattle.cas_history.specs.Cost.{asked_by_all}
+use Rattle.cas_history.specs.Cost.{asked, asked_by_all, IsWithinCost, HasRoomFor}
 use Rattle.cas_history.specs.End.{ended}
 use Rattle.cas_history.specs.Grows.{Grows}
 use Rattle.cas_history.specs.History.{history, decided, of_session, events_of}
@@ -34,6 +36,17 @@ EventChanges = (up : State) (start : Tables) (event : Event) (seen : List Event)
 -- the size, each bound place, each filled cell and each content stay as they are
 abbrev pub NeverChanges : Type 0
 NeverChanges = (up : State) (start : Tables) (more seen : List Event) → IsLawfulRun up start (more ++ seen) → Grows (tables start seen) (tables start (more ++ seen))
+
+-- of these, the size, bound places and filled cells stay in every run, lawful or not
+abbrev pub SizeStays : Type 0
+SizeStays = (start : Tables) (seen : List Event) → (tables start seen).size ≡ start.size
+
+abbrev pub PlacesStay : Type 0
+PlacesStay = (start : Tables) (more seen : List Event) (space : Space) (digest : Digest) (p : Place) → place_of (tables start seen).bound space digest ≡ Some p
+    → place_of (tables start (more ++ seen)).bound space digest ≡ Some p
+
+abbrev pub CellsStay : Type 0
+CellsStay = (start : Tables) (more seen : List Event) (n : ℕ) → 0 < cell_of (tables start seen).filled n → cell_of (tables start (more ++ seen)).filled n ≡ cell_of (tables start seen).filled n
 
 -- what was seen before is a lawful run
 abbrev pub BeforeIsLawful : Type 0
@@ -73,6 +86,15 @@ is_moved (Bind space digest own) = false
 is_moved (Read cell) = false
 is_moved (Claim n) = false
 is_moved (Fill cell value words) = false
+
+-- the act is a refused claim
+abbrev pub is_refused : Act → Bool
+is_refused (Room n moved) = true
+is_refused (Look space digest) = false
+is_refused (Bind space digest own) = false
+is_refused (Read cell) = false
+is_refused (Claim n) = false
+is_refused (Fill cell value words) = false
 
 -- no refused claim has moved the counter
 abbrev pub NoneMoved : List Event → Type 0
@@ -128,6 +150,35 @@ ClaimsApart = (up : State) (start : Tables) (seen : List Event) (who him : Who) 
 abbrev pub RoomIsAsked : Type 0
 RoomIsAsked = (up : State) (start : Tables) (note : Note) (n : ℕ) (moved : Bool) (seen : List Event) → IsLawfulRun up start (record { note = note; act = Room n moved } ∷ seen)
     → start.size < start.counter + n + asked_by_all seen
+
+-- ---- costs
+
+-- the call is in the list
+abbrev pub IsAmong : Who → List Who → Type 0
+IsAmong who [] = ⊥
+IsAmong who (w ∷ ws) = (w ≡ who) ⊎ IsAmong who ws
+
+-- each event is of one of these calls
+abbrev pub AreOf : List Who → List Event → Type 0
+AreOf whos [] = Unit {0}
+AreOf whos (e ∷ es) = IsAmong e.note.who whos × AreOf whos es
+
+-- these are the calls of the list, and each asks for at most its cost
+abbrev pub AskForCosts : State → (Who → Option Call) → List Event → List Who → List Call → Type 0
+AskForCosts up calls seen [] [] = Unit {0}
+AskForCosts up calls seen (who ∷ whos) (call ∷ rest) = (calls who ≡ Some call) × IsWithinCost up call (asked who seen) × AskForCosts up calls seen whos rest
+AskForCosts up calls seen [] (call ∷ rest) = ⊥
+AskForCosts up calls seen (who ∷ whos) [] = ⊥
+
+-- no claim is refused
+abbrev pub NoneRefused : List Event → Type 0
+NoneRefused [] = Unit {0}
+NoneRefused (e ∷ es) = (is_refused e.act ≡ false) × NoneRefused es
+
+-- where the start has room for the costs of all calls, and each asks for at most its cost, no claim is refused
+abbrev pub FullNeverComes : Type 0
+FullNeverComes = (up : State) (start : Tables) (calls : Who → Option Call) (whos : List Who) (list : List Call) (seen : List Event) → IsLawfulRun up start seen → AreOf whos seen
+    → AskForCosts up calls seen whos list → HasRoomFor up list start.counter start.size → NoneRefused seen
 
 -- ---- sessions
 

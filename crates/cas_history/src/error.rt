@@ -1,7 +1,7 @@
 // Why a run is not replayed.
 ghost use Rattle.std.specs.Prelude.{◌≡◌};
 
-use std::alloc::AllocError;
+use std::alloc::{AllocError, AllocFailed};
 
 /// Why a run is not replayed.
 #[derive(Clone, Copy, Debug, PartialEq, Eq)]
@@ -10,7 +10,10 @@ pub enum ReplayError {
     Memory,
     /// A claim would move the counter past the greatest number of 64 bits.
     TooFar,
-    /// What the event decides names the record at this place, and there is none. No lawful run has this.
+    /// The event may not happen after those before it, or its fill is not lawful for the upstream.
+    Unlawful,
+    /// What the event decides names the record at this place, and there is none. No run whose sessions have conduct
+    /// has this.
     Unbound(u64),
 }
 
@@ -21,6 +24,17 @@ impl From<AllocError> for ReplayError {
     ghost from_gives = { λ _ e. e ≡ Memory };
 
     fn from(_: AllocError) -> Self {
+        ReplayError::Memory
+    }
+}
+
+impl<T: Drop> From<AllocFailed<T>> for ReplayError {
+    ghost use Rattle.std.specs.Prelude.{◌≡◌};
+    ghost use Rattle.cas_history.specs.declared.error.ReplayError.TheVariants.{Memory};
+
+    ghost from_gives = { λ _ e. e ≡ Memory };
+
+    fn from(_: AllocFailed<T>) -> Self {
         ReplayError::Memory
     }
 }

@@ -1,4 +1,7 @@
 // The events of a run.
+ghost use Rattle.std.specs.Prelude.{◌≡◌};
+ghost use Rattle.cas_history.specs.History.{shows_miss, value_read, value_left};
+
 use cas_model::{Digest, Note, Place, Space, Words};
 
 /// What one atomic step of a call did on a region. An act carries no answer: its answer follows from the start of
@@ -49,4 +52,38 @@ pub enum Answer {
     Won(u64),
     /// The cell had this value before the fill, and has it still.
     Lost(u64),
+}
+
+impl Answer {
+    /// Whether a look found no record, or a read an empty cell.
+    pub fn is_miss(self) -> bool
+        ensures { result ≡ shows_miss self }
+    {
+        match self {
+            Answer::Looked(found) => found.is_none(),
+            Answer::Value(value) => value == 0,
+            Answer::Bound(_) | Answer::Given(_) | Answer::Refused(_) => false,
+            Answer::Won(_) | Answer::Lost(_) => false,
+        }
+    }
+
+    /// The value that a read found, 0 for every other answer.
+    pub fn value_read(self) -> u64
+        ensures { result ≡ value_read self }
+    {
+        match self {
+            Answer::Value(value) => value,
+            _ => 0,
+        }
+    }
+
+    /// The value that the cell has after a read or a fill of it, 0 for every other answer.
+    pub fn value_left(self) -> u64
+        ensures { result ≡ value_left self }
+    {
+        match self {
+            Answer::Value(value) | Answer::Won(value) | Answer::Lost(value) => value,
+            _ => 0,
+        }
+    }
 }

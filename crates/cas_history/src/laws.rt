@@ -1,5 +1,5 @@
 // What holds of each run as it goes on. Each function says it by its contract, and does nothing.
-ghost use Rattle.cas_history.specs.Laws.{EventChanges, NeverChanges, BeforeIsLawful, ObjectStaysLawful, ActionStaysLawful, FreeBlockLasts, CounterGrows, CounterFits, GivenOrFull, GivenFits, NamedFits, RecordFits, ClaimFits, NamedApart, FreeApart, ClaimsApart, RoomIsAsked, OthersLeaveConduct, OthersLeaveEntries, OthersLeaveOpen, EventsKeepConduct, EndIsStart, EndNamesTheSame, EmptyIsStart, EmptyNamesNothing};
+ghost use Rattle.cas_history.specs.Laws.{EventChanges, NeverChanges, SizeStays, PlacesStay, CellsStay, BeforeIsLawful, ObjectStaysLawful, ActionStaysLawful, FreeBlockLasts, CounterGrows, CounterFits, GivenOrFull, GivenFits, NamedFits, RecordFits, ClaimFits, NamedApart, FreeApart, ClaimsApart, RoomIsAsked, FullNeverComes, OthersLeaveConduct, OthersLeaveEntries, OthersLeaveOpen, EventsKeepConduct, EndIsStart, EndNamesTheSame, EmptyIsStart, EmptyNamesNothing};
 
 /// One more event changes in the tables what its kind changes, and nothing else.
 pub fn events_change_their_kind()
@@ -10,6 +10,9 @@ pub fn events_change_their_kind()
 /// claimed, and that nothing names, stays so while other calls go on.
 pub fn runs_grow()
     ensures never_changes { NeverChanges }
+    ensures size { SizeStays }
+    ensures places { PlacesStay }
+    ensures cells { CellsStay }
     ensures before { BeforeIsLawful }
     ensures object { ObjectStaysLawful }
     ensures action { ActionStaysLawful }
@@ -31,6 +34,12 @@ pub fn blocks_fit()
     ensures free_apart { FreeApart }
     ensures claims_apart { ClaimsApart }
     ensures room { RoomIsAsked }
+{}
+
+/// Where the start has room for the costs of all calls, and the claims of each call ask for at most its cost, no
+/// claim is refused.
+pub fn costs_leave_room()
+    ensures { FullNeverComes }
 {}
 
 /// Events of other sessions leave a session's conduct, its events, its entries and its undecided call as they

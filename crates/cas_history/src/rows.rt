@@ -1,9 +1,10 @@
 // The tables of a run in code: plain lists, the newest row first.
-ghost use Rattle.std.specs.Prelude.{◌≡◌, ◌∷◌, IfOk, OnOk, MatchOption, MatchResult};
-ghost use Rattle.cas_model.specs.Tables.{empty_start, same_space, place_of, record_at, cell_of, words_at, digest_of_record};
+ghost use Rattle.std.specs.Prelude.{◌≡◌, ◌+◌, ◌∷◌, cond, IfOk, IfErr, OnOk};
+ghost use Rattle.cas_model.specs.Tables.{empty_start, same_space, place_of, record_at, cell_of};
 ghost use Rattle.cas_history.specs.Answers.{answer};
+ghost use Rattle.cas_history.specs.End.{ended};
 ghost use Rattle.cas_history.specs.Replays.{IsTooFar};
-ghost use Rattle.cas_history.specs.Run.{after, bound_by, filled_by, claimed_by, after_act};
+ghost use Rattle.cas_history.specs.Run.{after, bound_by, filled_by, claimed_by};
 
 use crate::{Act, Answer, Event, ReplayError};
 use cas_model::{Cell, Content, Digest, Place, Record, Space, Who, Words};
@@ -153,6 +154,113 @@ impl Rows {
             },
         }
     }
+}
+
+impl Rows {
+    /// The tables after an event.
+    pub fn after(self, event: Event) -> Result<Rows, ReplayError>
+        ensures ok { IfOk result (λ rows. rows ≡ after self event) }
+        ensures err { IfErr result (λ error. IsTooFar self event.act error) }
+    {
+        let who = event.note.who;
+        match event.act {
+            Act::Look(..) | Act::Read(_) => Ok(self),
+            Act::Bind(space, digest, own) => Ok(self.bound_by(space, digest, own)?),
+            Act::Claim(words) => self.claimed_by(who, words),
+            Act::Room(words, moved) => self.refused_by(words, moved),
+            Act::Fill(cell, value, words) => Ok(self.filled_by(cell, value, words)?),
+        }
+    }
+
+    /// The tables at the end of a run, from which another may start.
+    pub fn ended(mut self) -> Rows
+        ensures { result ≡ ended self }
+    {
+        let end = self.counter.min(self.size);
+        self.counter = end;
+        self.given = end;
+        self.claims.clear();
+        self
+    }
+
+    // Binds a digest, where it is not bound, to a record of the event's own.
+    fn bound_by(
+        mut self,
+        space: Space,
+        digest: Digest,
+        own: Option<Place>,
+    ) -> Result<Rows, AllocError>
+        ensures { IfOk result (λ rows. rows ≡ bound_by self space digest (place_of self.bound space digest) own) }
+    {
+        if let (None, Some(place)) = (self.place_of(space, &digest), own) {
+            let record = Record {
+                space,
+                digest,
+                place,
+            };
+            put_front(&mut self.bound, record)?;
+        }
+        Ok(self)
+    }
+
+    // Gives a call the block at the counter.
+    fn claimed_by(mut self, who: Who, words: u64) -> Result<Rows, ReplayError>
+        ensures ok { IfOk result (λ rows. rows ≡ claimed_by self who words) }
+        ensures err { IfErr result (λ error. IsTooFar self (Act.Claim words) error) }
+    {
+        let place = self.counter;
+        let Some(end) = place.checked_add(words) else {
+            return Err(ReplayError::TooFar);
+        };
+        let block = ClaimedBlock {
+            who,
+            place,
+            length: words,
+        };
+        put_front(&mut self.claims, block)?;
+        self.counter = end;
+        self.given = end;
+        Ok(self)
+    }
+
+    // A refused claim moves the counter, or leaves it.
+    fn refused_by(mut self, words: u64, moved: bool) -> Result<Rows, ReplayError>
+        ensures ok { IfOk result (λ rows. rows ≡ record self { counter = cond moved (self.counter + words) self.counter }) }
+        ensures err { IfErr result (λ error. IsTooFar self (Act.Room words moved) error) }
+    {
+        if moved {
+            let Some(end) = self.counter.checked_add(words) else {
+                return Err(ReplayError::TooFar);
+            };
+            self.counter = end;
+        }
+        Ok(self)
+    }
+
+    // Fills a cell, where it is 0, and publishes the words.
+    fn filled_by(mut self, cell: Place, value: u64, words: Words) -> Result<Rows, AllocError>
+        ensures { IfOk result (λ rows. rows ≡ filled_by self (cell_of self.filled cell.at) cell value words) }
+    {
+        if self.cell_of(cell.at) == 0 {
+            put_front(&mut self.filled, Cell { of: cell, value })?;
+            if !words.list().is_empty() {
+                let content = Content {
+                    place: value,
+                    words,
+                };
+                put_front(&mut self.blocks, content)?;
+            }
+        }
+        Ok(self)
+    }
+}
+
+/// Puts an item before all others.
+pub fn put_front<T: Drop>(items: &mut Vec<T>, item: T) -> Result<(), AllocError>
+    ensures { OnOk result (items.new.items ≡ item ∷ items.old.items) }
+{
+    items.insert(0, item)?;
+    Ok(())
 }
 
 fn find_place(bound: &[Record], space: Space, digest: &Digest) -> Option<Place>

@@ -1,11 +1,11 @@
 -- What the decoder of hexadecimal text refuses, as refusals of an id.
-use Rattle.std.proofs.Common.{◌≡◌, ◌≢◌, ℕ, zero, suc, ◌+◌, ◌*◌, ◌/◌, ◌%◌, ◌<◌, ◌^◌, Bool, true, false, ◌⊎◌, inl, inr, List, [], ◌∷◌, length, take, drop, slice_index, Result, Ok, Err, refl, sym, ap, subst, zero-add, nat_eq, ◌∙◌, arith}
+use Rattle.std.proofs.Common.{◌≡◌, ℕ, ◌/◌, ◌%◌, ◌<◌, ◌^◌, true, false, ◌⊎◌, inl, inr, List, length, take, slice_index, Result, Ok, Err, sym, ap, zero-add, nat_eq, ◌∙◌, arith}
 use Rattle.std.proofs.lemmas.Bool.{cases_eq}
 use Rattle.std.specs.List.{AllPass}
-use Rattle.hex.specs.Hex.{decode_of, decode_sized, is_hex_digit}
+use Rattle.hex.specs.Hex.{decode_sized, is_hex_digit}
 use Rattle.hex.specs.declared.error.FromHexError.{FromHexError}
 use Rattle.hex.specs.declared.error.FromHexError.TheVariants.{InvalidHexCharacter, InvalidStringLength, OddLength}
-use Rattle.hex.proofs.HexLemmas.{decode_of-err, decode_sized-twice, decode_sized-odd, decode_sized-other, decode_sized-ok}
+use Rattle.hex.proofs.HexLemmas.{decode_of-err, decode_sized-twice, decode_sized-odd, decode_sized-other}
 use Rattle.std.specs.Prelude.{MatchResult}
 use Rattle.std.specs.Cmp.Lexicographic.{pointwise, bytes_decides}
 use Rattle.cas_model.specs.Id.{id_prefix, HasPrefix, IsRefused, digits_of, refusal_of, digit_index}

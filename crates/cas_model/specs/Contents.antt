@@ -1,5 +1,5 @@
 -- The state that contents hold, and contents that can be stored in their order.
-use Rattle.std.specs.Prelude.{◌≡◌, ℕ, ◌≤◌, List, [], ◌∷◌, length}
+use Rattle.std.specs.Prelude.{◌≤◌, List, [], ◌∷◌, length}
 use Rattle.std.specs.FinMap as fin
 use Rattle.cas_model.specs.declared.contents.Pair.{Pair}
 use Rattle.cas_model.specs.declared.digest.Digest.{Digest}

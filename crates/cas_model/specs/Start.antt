@@ -1,6 +1,5 @@
 -- Which tables a run may start from: those that the words of a lawful region stand for.
 use Rattle.std.specs.Prelude.{◌≡◌, ◌≢◌, ℕ, ◌+◌, ◌<◌, ◌≤◌, List, [], ◌∷◌, Some, None, IsSome, length, ◌⊎◌}
-use Rattle.std.specs.declared.option.Option.{Option}
 use Rattle.cas_model.specs.declared.digest.Digest.{Digest}
 use Rattle.cas_model.specs.declared.place.Place.{Place}
 use Rattle.cas_model.specs.declared.place.Space.{Space}

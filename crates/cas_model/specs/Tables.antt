@@ -1,6 +1,6 @@
 -- The tables that a region's words stand for: which digests are bound to records, which cells are filled, and which
 -- contents are published. A table is a list of rows, the newest first, and is read by its look-ups alone.
-use Rattle.std.specs.Prelude.{◌≡◌, ℕ, ◌+◌, List, [], ◌∷◌, Bool, true, false, cond, ◌&&◌, ◌⊎◌, nat_eq, ◌==◌, Some, None}
+use Rattle.std.specs.Prelude.{◌≡◌, ℕ, List, [], ◌∷◌, Bool, true, false, cond, ◌&&◌, ◌⊎◌, nat_eq, ◌==◌, Some, None}
 use Rattle.std.specs.declared.option.Option.{Option}
 use Rattle.std.specs.Cmp.Lexicographic.{pointwise}
 use Rattle.cas_model.specs.declared.call.Who.{Who}

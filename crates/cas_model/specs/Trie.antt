@@ -1,5 +1,5 @@
 -- Where a digest leads in a trie, and how many subtries a set of digests needs.
-use Rattle.std.specs.Prelude.{◌≡◌, ℕ, ◌+◌, ◌*◌, ◌/◌, ◌%◌, ◌<◌, List, [], ◌∷◌, length, cond, ◌==◌, nat_eq, slice_index, zero, suc, count_by}
+use Rattle.std.specs.Prelude.{◌≡◌, ℕ, ◌+◌, ◌/◌, ◌%◌, ◌<◌, List, [], ◌∷◌, length, cond, ◌==◌, nat_eq, slice_index, zero, suc, count_by}
 use Rattle.std.specs.Cmp.Lexicographic.{pointwise}
 use Rattle.cas_model.specs.declared.digest.Digest.{Digest}
 

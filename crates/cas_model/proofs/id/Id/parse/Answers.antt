@@ -1,6 +1,4 @@
 -- what the decoder refused, as a refusal of the id
-use Rattle.std.proofs.Common.{sym}
-use Rattle.cas_model.specs.Id.{IsRefused}
 use Rattle.cas_model.proofs.IdLemmas.{met, refused-rest, refused-fits}
 use Rattle.cas_model.proofs.id.Id.parse.Goals as goal
 

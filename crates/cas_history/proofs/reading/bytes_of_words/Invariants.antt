@@ -1,0 +1,7 @@
+-- the bytes of the words so far
+use Rattle.std.proofs.Common.{◌≡◌, take}
+use Rattle.cas_model.specs.Content.{bytes_of}
+use Rattle.cas_history.proofs.reading.bytes_of_words.Given as goal
+
+abbrev pub invariant-loop-word : goal.invariant-loop-word
+invariant-loop-word l = l.bytes.items ≡ bytes_of (take l.word-index l.words)

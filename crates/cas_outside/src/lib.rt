@@ -1,0 +1,28 @@
+//! The outside of the store: a source of bytes and a sink for them, a folder of files, and a gate round the calls;
+//! each as a trait whose contract tells what it holds and counts its faults, with one in memory and one of the system.
+#![tactic(auto)]
+
+mod folder;
+mod gate;
+mod mem_sink;
+mod mem_source;
+mod names;
+mod no_folder;
+mod plan;
+mod sink;
+mod source;
+#[cfg(test)]
+mod tests;
+
+pub use folder::{Folder, FolderError};
+pub use gate::{Gate, NoGate};
+pub use mem_sink::MemSink;
+pub use mem_source::MemSource;
+pub use names::{Bytes, Name};
+pub use no_folder::NoFolder;
+pub use sink::{Sink, WriteSink};
+pub use source::{ReadSource, Source};
+
+/// A call failed, and its object's count of faults rose.
+#[derive(Clone, Copy, Debug, PartialEq, Eq)]
+pub struct Failed;

@@ -1,0 +1,64 @@
+// Where bytes come from.
+ghost use Rattle.std.specs.Prelude.{◌<◌, List, ℕ, length, None};
+ghost use Rattle.std.specs.declared.option.Option.{Option};
+ghost use Rattle.std.specs.Io.{ReadsAtMost};
+ghost use Rattle.std.specs.Io.KnownBytes.{ReadConsumes};
+ghost use Rattle.cas_outside.specs.Causes.{HasCause};
+
+use crate::Failed;
+use std::io::{ErrorKind, Read};
+
+/// A source of bytes.
+pub trait Source {
+    /// The bytes that are left, where the source knows them.
+    ghost left: { Self → Option (List ℕ) };
+
+    /// How often it has failed. The count never falls, and stands at the last `u64`.
+    ghost faults: { Self → ℕ };
+
+    /// Takes bytes from the front of what is left. `Ok(n)` gives the first n of them, at most as many as there is room
+    /// for; `Ok(0)` comes exactly where nothing is left. `Failed` comes only where the count of faults rose in this
+    /// call, and then nothing was taken.
+    fn read(&mut self, into: &mut [u8]) -> Result<usize, Failed>
+        requires { 0 < length into.old }
+        ensures bound { ReadsAtMost result into.new }
+        ensures bytes { ReadConsumes (left self.old) (left self.new) result into.new }
+        ensures cause { HasCause (faults self.old) (faults self.new) result };
+}
+
+/// Any reader of std as a source. It tells nothing of what is left, and tries an interrupted read again, 1,000 times
+/// at most.
+#[derive(Drop)]
+pub struct ReadSource<R> {
+    inner: R,
+    faults: u64,
+}
+
+impl<R: Read> ReadSource<R> {
+    ghost use Rattle.std.specs.Prelude.{◌≡◌};
+
+    /// The source over a reader, with no fault counted.
+    pub fn new(inner: R) -> ReadSource<R>
+        ensures { result.faults ≡ 0 }
+    {
+        ReadSource { inner, faults: 0 }
+    }
+}
+
+impl<R: Read> Source for ReadSource<R> {
+    ghost left = { λ _. None };
+
+    ghost faults = { λ s. s.faults };
+
+    fn read(&mut self, into: &mut [u8]) -> Result<usize, Failed> {
+        for _ in 0..1000 {
+            match self.inner.read(into) {
+                Ok(count) => return Ok(count),
+                Err(error) if error.kind() == ErrorKind::Interrupted => {}
+                Err(_) => break,
+            }
+        }
+        self.faults = self.faults.saturating_add(1);
+        Err(Failed)
+    }
+}

@@ -1,0 +1,7 @@
+pub mod Words
+pub mod Answer
+pub mod Reading
+pub mod Writing
+pub mod Front
+pub mod History
+pub mod Run

@@ -1,0 +1,55 @@
+-- What a store leaves in its port.
+use Rattle.std.specs.Prelude.{◌≡◌, ℕ, List, true, not, Some}
+use Rattle.cas_model.specs.declared.call.Call.TheVariants.{Store}
+use Rattle.cas_model.specs.declared.call.Reply.TheVariants as reply
+use Rattle.cas_model.specs.declared.call.Who.{Who}
+use Rattle.cas_model.specs.declared.digest.Digest.{Digest}
+use Rattle.cas_model.specs.declared.note.Note.{Note}
+use Rattle.cas_model.specs.declared.note.Stage.TheVariants.{Ref, Own}
+use Rattle.cas_model.specs.declared.object.Object.{Object}
+use Rattle.cas_model.specs.Object.{object_digest}
+use Rattle.cas_model.specs.State.{has}
+use Rattle.cas_model.specs.Step.{IsFirstLacked}
+use Rattle.cas_history.specs.Conduct.{missed, is_ref}
+use Rattle.cas_history.specs.Cost.{object_cost}
+use Rattle.cas_history.specs.History.{reply_where}
+use Rattle.cell_port.specs.View.{View}
+use Rattle.graph_db.specs.declared.error.StoreError.{StoreError}
+use Rattle.graph_db.specs.declared.error.StoreError.TheVariants.{Dangling, Full, Memory}
+use Rattle.graph_db.specs.Events.{Ends, Last, Reads, Stops, seen_state}
+
+abbrev pub object_with : List Digest → List ℕ → Object
+object_with refs bytes = record { refs = refs; «data» = bytes }
+
+abbrev pub own_note : Who → Note
+own_note who = record { who = who; stage = Own }
+
+abbrev pub ref_note : Who → ℕ → Note
+ref_note who i = record { who = who; stage = Ref i }
+
+-- the call is decided by Stored, and the primary has the digest
+pub record HasStored (who : Who) (o : Object) (old new : View) (digest : Digest) : Type 0 where
+  pub is : digest ≡ object_digest o
+  pub there : has (seen_state new) digest ≡ true
+  pub ends : Ends who (Store o) (Some (reply.Stored digest)) old new (object_cost o)
+  pub last : Last (own_note who) (Store o) (Some (reply.Stored digest)) new
+
+-- the reference at this index is the first that the primary lacks, and the newest event missed it. It decides the call where the upstream lacks the
+-- reference too, and else nothing. The call has only looked and read
+pub record IsDangling (who : Who) (o : Object) (old new : View) (i : ℕ) (digest : Digest) : Type 0 where
+  pub first : IsFirstLacked (seen_state new) o.refs i digest
+  pub reads : Reads who old new
+  pub ends : Ends who (Store o) (reply_where (not (has old.upstream digest)) (reply.Dangling i digest)) old new 0
+  pub last : Last (ref_note who i) (Store o) (reply_where (not (has old.upstream digest)) (reply.Dangling i digest)) new
+  pub missed : missed new.start who (is_ref i) new.seen ≡ true
+
+-- the newest event is a refused claim with these numbers, and decides the call
+pub record HasNoRoom (who : Who) (o : Object) (old new : View) (at asked size : ℕ) : Type 0 where
+  pub ends : Ends who (Store o) (Some (reply.Full at asked size)) old new (object_cost o)
+  pub last : Last (own_note who) (Store o) (Some (reply.Full at asked size)) new
+
+-- why a store was refused
+abbrev pub IsRefused : Who → Object → View → View → StoreError → Type 0
+IsRefused who o old new (Dangling i digest) = IsDangling who o old new i digest
+IsRefused who o old new (Full full) = HasNoRoom who o old new full.at full.asked full.size
+IsRefused who o old new Memory = Stops who (Store o) old new (object_cost o)

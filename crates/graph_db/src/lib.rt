@@ -1,0 +1,14 @@
+//! Objects over any port: they are stored, loaded and looked for in the primary that the port leads to.
+#![tactic(auto)]
+
+mod error;
+mod loading;
+mod seeking;
+mod storing;
+#[cfg(test)]
+mod tests;
+
+pub use error::StoreError;
+pub use loading::load;
+pub use seeking::holds;
+pub use storing::store;
