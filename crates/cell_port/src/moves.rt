@@ -134,9 +134,9 @@ pub fn fill_cell(
     ensures err_events { OnErr result (events.new.items ≡ events.old.items) }
 {
     events.reserve(1)?;
-    let had = tables.cell_of(of);
+    let before = tables.cell_of(of);
     let words = Words::of(Vec::new(alloc));
-    if had == 0 {
+    if before == 0 {
         tables.fill(of, value)?;
         let act = Act::Fill(of, value, words);
         events.push_front_reserved(Event { note, act });
@@ -144,5 +144,5 @@ pub fn fill_cell(
     }
     let act = Act::Fill(of, value, words);
     events.push_front_reserved(Event { note, act });
-    Ok(Filled::Lost(had))
+    Ok(Filled::Lost(before))
 }
