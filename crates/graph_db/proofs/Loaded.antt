@@ -66,7 +66,7 @@ sha-small m = digest-small (final_hash initial_hash_256 m) 8
 
 -- ---- what a filled object holds
 
-whole-record : (s : Tables) (n : ℕ) → IsSound s → IsFilled s n → IsWholeRecord s n
+pub whole-record : (s : Tables) (n : ℕ) → IsSound s → IsFilled s n → IsWholeRecord s n
 whole-record s n sound filled =
     let r : Record = filled.object.found in
     let names = subst (λ (space : Space). CellNames s space r.digest (cell_of s.filled n)) filled.object.in_space (sound.names n r filled.object.is filled.filled) in
@@ -199,6 +199,7 @@ length-eight (suc n) [] le = absurd (omega arith)
 length-eight (suc n) (x ∷ xs) le = length-eight n xs (omega (arith, le))
 
 word-back : (d : Digest) (i word : ℕ) → length d.bytes ≡ 32 → AreBytes d.bytes → i < 4 → word ≡ digest_word d i → to_be_bytes w64 word ≡ take 8 (drop (8 * i) d.bytes)
+unfolding digest_word
 word-back d i word long ok lt is =
     be_bytes_8 (take 8 (drop (8 * i) d.bytes)) word (length-eight (8 * i) d.bytes (omega (arith, long, lt)))
     (get-bytes (take 8 (drop (8 * i) d.bytes)) (take-bytes 8 (drop (8 * i) d.bytes) (drop-bytes (8 * i) d.bytes ok))) (is ∙ sym (first-eight (drop (8 * i) d.bytes)))
