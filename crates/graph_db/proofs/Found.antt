@@ -115,7 +115,7 @@ missed-here note digest old new which is h =
     subst (λ (es : List Event). missed new.start note.who which es ≡ true) (sym h.is)
     (here (same_who note.who note.who) (which note.stage) (is_miss (tables_after new.start h.earlier) h.act) (missed new.start note.who which h.earlier) (same-self note.who) is h.missed)
 
-found-here : (who : Who) (i : ℕ) (digest : Digest) (old new : View) → HasSought (ref_note who i) digest old new true → found_ref new.start who i new.seen ≡ true
+pub found-here : (who : Who) (i : ℕ) (digest : Digest) (old new : View) → HasSought (ref_note who i) digest old new true → found_ref new.start who i new.seen ≡ true
 found-here who i digest old new h =
     subst (λ (es : List Event). found_ref new.start who i es ≡ true) (sym h.is)
     (here (same_who who who) (i == i) (not (read_by (tables_after new.start h.earlier) h.act == 0)) (found_ref new.start who i h.earlier) (same-self who) (eq-eqb i i refl) (ap not h.unread))

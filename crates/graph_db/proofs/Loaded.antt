@@ -66,7 +66,7 @@ sha-small m = digest-small (final_hash initial_hash_256 m) 8
 
 -- ---- what a filled object holds
 
-whole-record : (s : Tables) (n : ℕ) → IsSound s → IsFilled s n → IsWholeRecord s n
+pub whole-record : (s : Tables) (n : ℕ) → IsSound s → IsFilled s n → IsWholeRecord s n
 whole-record s n sound filled =
     let r : Record = filled.object.found in
     let names = subst (λ (space : Space). CellNames s space r.digest (cell_of s.filled n)) filled.object.in_space (sound.names n r filled.object.is filled.filled) in

@@ -9,6 +9,6 @@ mod storing;
 mod tests;
 
 pub use error::StoreError;
-pub use loading::load;
+pub use loading::{load, record_digest};
 pub use seeking::holds;
 pub use storing::store;

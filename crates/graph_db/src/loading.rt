@@ -97,8 +97,8 @@ fn read_refs<P: CellPort>(
     Ok(Refs::from_vec(refs))
 }
 
-// The digest of a bound record, from its four words.
-fn record_digest<P: CellPort>(port: &mut P, record_: Place) -> Digest
+/// The digest of a bound record, read from its four words. It adds no event.
+pub fn record_digest<P: CellPort>(port: &mut P, record_: Place) -> Digest
     requires { IsWholeRecord (tables (P.view port.old)) record_.at }
     ensures digest { result ≡ digest_at (tables (P.view port.old)).bound record_.at }
     ensures same { P.view port.new ≡ P.view port.old }
