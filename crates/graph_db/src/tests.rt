@@ -1,11 +1,26 @@
 // Stores and loads over a plain port: the answers of a first reference that is absent, of one object, of a node that
 // names one object three times, and of a store that is made twice.
+ghost use Rattle.std.specs.Prelude.{◌≤◌, length};
+
 use crate::{StoreError, holds, load, store};
-use cas_model::{Digest, Note, Stage, Who};
+use cas_model::{Digest, NoUpstream, Note, Stage, Who};
 use cell_port::{CellPort, PlainPort};
 use std::test::Fail;
 
 const ABSENT: Digest = Digest { bytes: [0; 32] };
+
+// A store where there is no upstream, and so nothing to bring in before.
+fn store_in<'u>(
+    port: &mut PlainPort<'u, NoUpstream>,
+    who: Who,
+    refs: &[Digest],
+    data: &[u8],
+) -> Result<Digest, StoreError>
+    requires few_refs { length refs.now ≤ 65535 }
+    requires short { length «data».now ≤ 16777215 }
+{
+    store(port, who, refs, data)
+}
 
 fn call(index: u32) -> Who {
     Who { session: 0, index }
@@ -14,7 +29,7 @@ fn call(index: u32) -> Who {
 #[test]
 fn an_absent_reference_is_dangling(rt: HostRuntime) -> Result<(), Fail> {
     let mut port = PlainPort::new(rt.alloc(), 4096)?;
-    let answer = store(&mut port, call(0), &[ABSENT], b"");
+    let answer = store_in(&mut port, call(0), &[ABSENT], b"");
     assert_eq!(rt;
         answer,
         Err(StoreError::Dangling {
@@ -40,9 +55,9 @@ fn a_stored_object_is_loaded(rt: HostRuntime) -> Result<(), Fail> {
     let hello = Digest::of(&[], b"hello");
     let absent = load(rt.alloc(), &mut port, call(0), &hello)?;
     assert!(rt; absent.is_none());
-    assert_eq!(rt; store(&mut port, call(1), &[], b"hello"), Ok(hello));
+    assert_eq!(rt; store_in(&mut port, call(1), &[], b"hello"), Ok(hello));
     // It is there, and stays.
-    assert_eq!(rt; store(&mut port, call(2), &[], b"hello"), Ok(hello));
+    assert_eq!(rt; store_in(&mut port, call(2), &[], b"hello"), Ok(hello));
     match load(rt.alloc(), &mut port, call(3), &hello)? {
         Some(object) => {
             assert!(rt; object.refs.list().is_empty());
@@ -64,8 +79,8 @@ fn a_node_names_one_object_three_times(rt: HostRuntime) -> Result<(), Fail> {
     let mut port = PlainPort::new(rt.alloc(), 4096)?;
     let leaf = Digest::of(&[], b"leaf");
     let node = Digest::of(&[leaf, leaf, leaf], b"0123456789");
-    assert_eq!(rt; store(&mut port, call(0), &[], b"leaf"), Ok(leaf));
-    let answer = store(&mut port, call(1), &[leaf, leaf, leaf], b"0123456789");
+    assert_eq!(rt; store_in(&mut port, call(0), &[], b"leaf"), Ok(leaf));
+    let answer = store_in(&mut port, call(1), &[leaf, leaf, leaf], b"0123456789");
     assert_eq!(rt; answer, Ok(node));
     match load(rt.alloc(), &mut port, call(2), &node)? {
         Some(object) => {
@@ -74,7 +89,7 @@ fn a_node_names_one_object_three_times(rt: HostRuntime) -> Result<(), Fail> {
         }
         None => assert!(rt; false),
     }
-    let second = store(&mut port, call(3), &[leaf, ABSENT, leaf, ABSENT], b"");
+    let second = store_in(&mut port, call(3), &[leaf, ABSENT, leaf, ABSENT], b"");
     assert_eq!(rt;
         second,
         Err(StoreError::Dangling {
