@@ -5,6 +5,7 @@
 mod block;
 mod depth;
 mod digest_words;
+mod example;
 mod holdings;
 mod moves;
 mod pairs;
@@ -17,6 +18,7 @@ mod subtries;
 mod tables;
 
 pub use block::{Block, Bound, Filled, OpenBlock, PortError, Written};
+pub use example::store_content;
 pub use plain::{Events, PlainPort};
 pub use port::CellPort;
 pub use steps::Steps;
