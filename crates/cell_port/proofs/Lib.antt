@@ -17,3 +17,4 @@ pub mod PairRows
 pub mod HeldContents
 pub mod WrittenHeads
 pub mod OneContent
+pub mod KeptRecord

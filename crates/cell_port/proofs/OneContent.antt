@@ -256,12 +256,17 @@ module _ (who : Who) (digest : Digest) (words : List ℕ) (v0 v1 v2 v3 v4 : View
     cell-some (suc had) is = subst (λ n. 0 < n) (sym is) (omega arith)
     cell-some zero is = subst (λ b. 0 < cond b value (cell_of before5.filled bound.place.at)) (sym (eq-eqb bound.place.at bound.place.at refl)) some
 
-    not-both : (had : ℕ) → filled_as (suc had) value ≡ Won value → ⊥
-    not-both had e = cc (ap (λ b. cond b (Won value) (Lost (suc had))) (sym (ne_eqb (suc had) 0 (λ z. omega (arith, z)))) ∙ e)
+    not-both : (had at : ℕ) → filled_as (suc had) value ≡ Won at → ⊥
+    not-both had at e = cc (ap (λ b. cond b (Won value) (Lost (suc had))) (sym (ne_eqb (suc had) 0 (λ z. omega (arith, z)))) ∙ e)
 
-    words-there : (had : ℕ) → filled ≡ filled_as had value → filled ≡ Won value → words_at (filled_by before5 had bound.place value words).blocks value ≡ Some words
-    words-there (suc had) is won = absurd (not-both had (sym is ∙ won))
-    words-there zero is won = published-there value words before5.blocks (content-some words is_blob.content)
+    same-place : (at : ℕ) → Won value ≡ Won at → value ≡ at
+    same-place at e = cc e
+
+    words-there : (had at : ℕ) → filled ≡ filled_as had value → filled ≡ Won at → words_at (filled_by before5 had bound.place value words).blocks at ≡ Some words
+    words-there (suc had) at is won = absurd (not-both had at (sym is ∙ won))
+    words-there zero at is won =
+        subst (λ n. words_at (published value words before5.blocks) n ≡ Some words) (same-place at (sym is ∙ won))
+        (published-there value words before5.blocks (content-some words is_blob.content))
 
     answer-is : filled ≡ filled_as (cell_of before5.filled bound.place.at) value
     answer-is = fills.answer ∙ ap (λ (v : View). filled_as (cell_of (tables_before v).filled bound.place.at) value) last-is
@@ -286,5 +291,5 @@ module _ (who : Who) (digest : Digest) (words : List ℕ) (v0 v1 v2 v3 v4 : View
         };
         filled = cell-some (cell_of before5.filled bound.place.at) refl;
       });
-      there = λ won. ap (λ (v : View). words_at (tables v).blocks value) last-is ∙ words-there (cell_of before5.filled bound.place.at) answer-is won;
+      there = λ at won. ap (λ (v : View). words_at (tables v).blocks at) last-is ∙ words-there (cell_of before5.filled bound.place.at) at answer-is won;
     }

@@ -68,4 +68,4 @@ pub record HasStored (who : Who) (digest : Digest) (words : List ℕ) (old new :
       → of_session who.session (history new.upstream new.start calls new.seen)
       ≡ (record { who = who; call = Store (blob words); reply = Stored digest }) ∷ of_session who.session (history old.upstream old.start calls old.seen)
   pub cell : IsFilled (tables new) place.at
-  pub there : filled ≡ Won value → words_at (tables new).blocks value ≡ Some words
+  pub there : (at : ℕ) → filled ≡ Won at → words_at (tables new).blocks at ≡ Some words

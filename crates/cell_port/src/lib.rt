@@ -16,6 +16,8 @@ mod searches;
 mod steps;
 mod subtries;
 mod tables;
+#[cfg(test)]
+mod tests;
 
 pub use block::{Block, Bound, Filled, OpenBlock, PortError, Written};
 pub use example::store_content;
