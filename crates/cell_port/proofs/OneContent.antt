@@ -232,13 +232,13 @@ module _ (who : Who) (digest : Digest) (words : List ℕ) (v0 v1 v2 v3 v4 : View
         let o = blob words in
         decides up start calls who o v0.speaks mine call bound.place value words (fills.others ++ (claim_event ∷ claimed.others ++ (bind_event ∷ binds.before ++ (look_event ∷ looked.adds.others ++ v0.seen)))) some
         ∙ (λ i. (record { who = who; call = Store (blob words); reply = Stored (is_blob.named i) }) ∷ (
-          foreign-silent up start calls who o v0.speaks mine call fills.others (claim_event ∷ claimed.others ++ (bind_event ∷ binds.before ++ (look_event ∷ looked.adds.others ++ v0.seen))) foreign-3
-          ∙ silent up start calls who o v0.speaks mine call (Claim (length words)) (claimed.others ++ (bind_event ∷ binds.before ++ (look_event ∷ looked.adds.others ++ v0.seen))) refl
-          ∙ foreign-silent up start calls who o v0.speaks mine call claimed.others (bind_event ∷ binds.before ++ (look_event ∷ looked.adds.others ++ v0.seen)) foreign-2
-          ∙ silent up start calls who o v0.speaks mine call (Bind Objects digest binds.own) (binds.before ++ (look_event ∷ looked.adds.others ++ v0.seen)) refl
-          ∙ bind-silent up start calls who o v0.speaks mine call binds.before (look_event ∷ looked.adds.others ++ v0.seen) 997 claims-0
-          ∙ silent up start calls who o v0.speaks mine call (Look Objects digest) (looked.adds.others ++ v0.seen) refl
-          ∙ foreign-silent up start calls who o v0.speaks mine call looked.adds.others v0.seen looked.adds.foreign) i)
+        foreign-silent up start calls who o v0.speaks mine call fills.others (claim_event ∷ claimed.others ++ (bind_event ∷ binds.before ++ (look_event ∷ looked.adds.others ++ v0.seen))) foreign-3
+        ∙ silent up start calls who o v0.speaks mine call (Claim (length words)) (claimed.others ++ (bind_event ∷ binds.before ++ (look_event ∷ looked.adds.others ++ v0.seen))) refl
+        ∙ foreign-silent up start calls who o v0.speaks mine call claimed.others (bind_event ∷ binds.before ++ (look_event ∷ looked.adds.others ++ v0.seen)) foreign-2
+        ∙ silent up start calls who o v0.speaks mine call (Bind Objects digest binds.own) (binds.before ++ (look_event ∷ looked.adds.others ++ v0.seen)) refl
+        ∙ bind-silent up start calls who o v0.speaks mine call binds.before (look_event ∷ looked.adds.others ++ v0.seen) 997 claims-0
+        ∙ silent up start calls who o v0.speaks mine call (Look Objects digest) (looked.adds.others ++ v0.seen) refl
+        ∙ foreign-silent up start calls who o v0.speaks mine call looked.adds.others v0.seen looked.adds.foreign) i)
 
     -- ---- the cell and the content
 

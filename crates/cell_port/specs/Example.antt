@@ -60,7 +60,7 @@ pub record HasStored (who : Who) (digest : Digest) (words : List ℕ) (old new :
   pub claims : BindClaims old.speaks (own_note who) before 997
   pub is : new ≡ record old {
     seen = event_of (own_note who) (Fill place value words) ∷ third ++ (
-      event_of (own_note who) (Claim (length words)) ∷ second ++ (
+        event_of (own_note who) (Claim (length words)) ∷ second ++ (
         event_of (own_note who) (Bind Objects digest own) ∷ before ++ (event_of (own_note who) (Look Objects digest) ∷ first ++ old.seen)));
   }
   -- of its session, the history has one entry more

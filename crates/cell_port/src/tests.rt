@@ -67,11 +67,8 @@ fn is_move(act: &Act, want: Move) -> bool {
 fn saw(events: &Events, wants: &[Move]) -> bool {
     let events = events.list();
     events.len() == wants.len()
-        && events
-            .iter()
-            .rev()
-            .zip(wants)
-            .all(|(event, want)| event.note == OWN && is_move(&event.act, *want))
+        && events.iter().rev().zip(wants).all(|(event, want)| event.note == OWN
+            && is_move(&event.act, *want))
 }
 
 #[test]
@@ -110,7 +107,12 @@ fn a_claim_past_the_end_moves_nothing(rt: HostRuntime) -> Result<(), Fail> {
         let got = port.claim(OWN, words).map(|block| block.place().at);
         assert_eq!(rt; got, want);
     }
-    assert!(rt; saw(&port.into_events(), &[Claim(3570), Room(7, false), Claim(6)]));
+    assert!(rt;
+        saw(
+            &port.into_events(),
+            &[Claim(3570), Room(7, false), Claim(6)]
+        )
+    );
     Ok(())
 }
 
@@ -184,11 +186,7 @@ fn digests_that_differ_in_their_last_nibble_need_62_subtries(rt: HostRuntime) ->
     let block = port.claim(OWN, 1)?;
     assert_eq!(rt; block.place().at, 1522);
     let mut wants = Vec::new(rt.alloc());
-    wants.extend_from_slice(&[
-        Claim(5),
-        Bind(Objects, zero, Some(at(520))),
-        Claim(5),
-    ])?;
+    wants.extend_from_slice(&[Claim(5), Bind(Objects, zero, Some(at(520))), Claim(5)])?;
     for _ in 0..62 {
         wants.push(Claim(16))?;
     }
