@@ -15,3 +15,6 @@ pub mod PartsLoops
 pub mod ReadBack
 pub mod PairRows
 pub mod HeldContents
+pub mod WrittenHeads
+pub mod OneContent
+pub mod KeptRecord

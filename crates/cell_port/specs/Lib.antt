@@ -9,3 +9,4 @@ pub mod Plain
 pub mod PlainView
 pub mod Claims
 pub mod Parts
+pub mod Example

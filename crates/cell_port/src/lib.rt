@@ -5,6 +5,7 @@
 mod block;
 mod depth;
 mod digest_words;
+mod example;
 mod holdings;
 mod moves;
 mod pairs;
@@ -15,8 +16,11 @@ mod searches;
 mod steps;
 mod subtries;
 mod tables;
+#[cfg(test)]
+mod tests;
 
 pub use block::{Block, Bound, Filled, OpenBlock, PortError, Written};
+pub use example::store_content;
 pub use plain::{Events, PlainPort};
 pub use port::CellPort;
 pub use steps::Steps;

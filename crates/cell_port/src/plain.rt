@@ -168,6 +168,15 @@ impl Model for Events {
     ghost view = { λ e. record { start = e.tables.start; seen = e.events.items } };
 }
 
+impl Events {
+    /// The events, the newest first.
+    pub fn list(&self) -> &VecDeque<Event>
+        ensures { result.now.items ≡ self.now.seen }
+    {
+        &self.events
+    }
+}
+
 impl<'u, U: Upstream> CellPort for PlainPort<'u, U> {
     ghost view = { λ p. port_view U.state p };
 
