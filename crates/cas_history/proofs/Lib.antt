@@ -17,3 +17,4 @@ pub mod Firsts
 pub mod Checked
 pub mod Stays
 pub mod Costs
+pub mod Exact

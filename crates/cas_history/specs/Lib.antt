@@ -11,4 +11,5 @@ pub mod End
 pub mod Changes
 pub mod Laws
 pub mod Theorem
+pub mod Loads
 pub mod Replays

@@ -21,7 +21,9 @@ pub use laws::{
 };
 pub use replay::Replay;
 pub use rows::{ClaimedBlock, Rows};
-pub use theorem::{calls_go_in_order, history_is_legal, primary_is_closed, promises_are_whole};
+pub use theorem::{
+    calls_go_in_order, history_is_legal, loads_are_exact, primary_is_closed, promises_are_whole,
+};
 
 #[cfg(test)]
 mod tests;

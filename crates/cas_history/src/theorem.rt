@@ -1,5 +1,6 @@
 // The theorem over lawful runs. Each function says a part of it by its contract, and does nothing.
 ghost use Rattle.cas_history.specs.Theorem.{HistoryIsLegal, CarriedIsPrimary, PrimaryIsClosed, PrimaryIsStorable, VisibleIsClosed, FoundIsNamed, PromisesAreWhole, IndexesCountUp, IndexesGoOn, OrderCounts};
+ghost use Rattle.cas_history.specs.Loads.{LegalLoadsAreExact};
 
 /// The history of every lawful run whose sessions have conduct is a legal history of a one-thread object store and
 /// action cache, from what was visible at the start to what is visible at the end. It holds for every map of calls,
@@ -29,4 +30,10 @@ pub fn calls_go_in_order()
     ensures count { IndexesCountUp }
     ensures events { IndexesGoOn }
     ensures same { OrderCounts }
+{}
+
+/// A load of a legal history finds an object of the digest that it was asked for; and where no two of the objects that
+/// were opened or are stored share a digest, the only one that has it: exactly the bytes and references that were stored.
+pub fn loads_are_exact()
+    ensures { LegalLoadsAreExact }
 {}

@@ -1,9 +1,10 @@
 -- The texts of ids.
-use Rattle.std.specs.Prelude.{◌≡◌, ◌≢◌, ℕ, ◌<◌, List, ◌++◌, codes, Ok, false, length, slice_index, take, drop}
+use Rattle.std.specs.Prelude.{◌≡◌, ◌≢◌, ◌⊎◌, ℕ, ◌<◌, List, ◌++◌, codes, Ok, false, length, slice_index, take, drop}
 use Rattle.std.specs.List.{AllPass}
 use Rattle.hex.specs.Hex.{encode_lower, decode_of, is_hex_digit}
 use Rattle.hex.specs.declared.error.FromHexError.{FromHexError}
 use Rattle.hex.specs.declared.error.FromHexError.TheVariants.{InvalidHexCharacter, OddLength, InvalidStringLength, OutOfMemory}
+use Rattle.cas_model.specs.Object.{key_digest}
 use Rattle.cas_model.specs.declared.digest.Digest.{Digest}
 use Rattle.cas_model.specs.declared.id.IdError.{IdError}
 use Rattle.cas_model.specs.declared.id.IdError.TheVariants.{BadPrefix, BadLength, BadDigit}
@@ -36,6 +37,23 @@ IsRefused BadLength text = HasPrefix text × (length (digits_of text) ≢ 64)
 IsRefused (BadDigit k) text =
     HasPrefix text × (length (digits_of text) ≡ 64) × (k < 64)
     × (is_hex_digit (slice_index (digits_of text) k) ≡ false) × AllPass is_hex_digit (take k (digits_of text))
+
+-- ---- keys
+
+abbrev pub action_prefix : List ℕ
+action_prefix = codes "action:"
+
+-- the text begins with `action:`
+pub record NamesAction (text : List ℕ) : Type 0 where
+  pub is : take 7 text ≡ action_prefix
+
+-- the text is `action:` and a text of this digest, or else the id of this digest
+abbrev pub IsKeyOf : Digest → List ℕ → Type 0
+IsKeyOf digest text = (NamesAction text × (digest ≡ key_digest (drop 7 text))) ⊎ ((¬ NamesAction text) × IsIdOf digest text)
+
+-- the text is no key: it does not begin with `action:`, and is no id for this reason
+abbrev pub IsRefusedKey : IdError → List ℕ → Type 0
+IsRefusedKey error text = (¬ NamesAction text) × IsRefused error text
 
 -- the index of the digit that the decoder of hexadecimal text refused, 0 for its other errors
 abbrev pub digit_index : FromHexError → ℕ

@@ -8,3 +8,4 @@ pub mod Primary
 pub mod Start
 pub mod Trie
 pub mod Contents
+pub mod Claims

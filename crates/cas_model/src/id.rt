@@ -1,6 +1,6 @@
 // The text of an id.
 ghost use Rattle.std.specs.Prelude.{◌≡◌, ◌<◌, ◌^◌, IfOk, MatchResult};
-ghost use Rattle.cas_model.specs.Id.{id_text, digit_index, refusal_of, IsIdOf, IsRefused};
+ghost use Rattle.cas_model.specs.Id.{id_text, digit_index, refusal_of, IsIdOf, IsRefused, IsKeyOf, IsRefusedKey};
 
 use crate::Digest;
 use hex::FromHexError;
@@ -8,6 +8,9 @@ use std::alloc::{AllocError, Global};
 
 /// What an id's text begins with.
 const PREFIX: &[u8] = b"llvmcas://";
+
+/// What a key that is named by a text begins with.
+const ACTION: &[u8] = b"action:";
 
 /// A digest as it is written: `llvmcas://` and 64 hexadecimal digits, 74 bytes in all. The prefix is this
 /// project's own.
@@ -39,6 +42,17 @@ impl Id {
         match hex::decode_to_slice(digits, &mut bytes) {
             Ok(()) => Ok(Digest { bytes }),
             Err(error) => Err(refusal(error)),
+        }
+    }
+
+    /// The digest of a key as it is written: `action:` and any text, which is hashed, or else an id. This is the project's
+    /// own way to write keys.
+    pub fn parse_key(text: &[u8]) -> Result<Digest, IdError>
+        ensures { MatchResult result (λ digest. IsKeyOf digest text.now) (λ error. IsRefusedKey error text.now) }
+    {
+        match text.strip_prefix(ACTION) {
+            Some(name) => Ok(Digest::of_key(name)),
+            None => Id::parse(text),
         }
     }
 

@@ -66,6 +66,20 @@ fn ids_are_refused_for_the_first_reason(rt: HostRuntime) -> Result<(), Fail> {
 }
 
 #[test]
+fn a_key_is_a_text_or_an_id(rt: HostRuntime) -> Result<(), Fail> {
+    let id = Id {
+        digest: Digest::of(&[], b"hello"),
+    };
+    let text = id.text(rt.alloc())?;
+    assert_eq!(rt; Id::parse_key(text.as_slice()), Ok(id.digest));
+    assert_eq!(rt; Id::parse_key(b"action:abc"), Ok(Digest::of_key(b"abc")));
+    assert_eq!(rt; Id::parse_key(b"action:"), Ok(Digest::of_key(b"")));
+    assert_eq!(rt; Id::parse_key(b"action"), Err(IdError::BadPrefix));
+    assert_eq!(rt; Id::parse_key(b"llvmcas://12"), Err(IdError::BadLength));
+    Ok(())
+}
+
+#[test]
 fn objects_keep_their_lists(rt: HostRuntime) -> Result<(), Fail> {
     let refs = [Digest::of(&[], b"a"), Digest::of(&[], b"b")];
     let object = Object {
