@@ -11,7 +11,8 @@ use Rattle.cas_model.specs.Trie.{new_subtries}
 use Rattle.cas_history.specs.declared.event.Event.{Event}
 use Rattle.cell_port.specs.declared.block.PortError.{PortError}
 use Rattle.cell_port.specs.declared.block.PortError.TheVariants.{Full, Memory}
-use Rattle.cell_port.specs.Claims.{record_claims, IsFirstRefused, Refuses}
+use Rattle.cas_model.specs.Claims.{record_claims, IsFirstRefused}
+use Rattle.cell_port.specs.Claims.{Refuses}
 use Rattle.cell_port.specs.Needed.{needed, bound_in}
 use Rattle.cell_port.specs.Plain.{BindStays, BindIsRefused, granted}
 use Rattle.cell_port.specs.Tables.{PlainRows}
@@ -89,12 +90,12 @@ part-refused note k r new seen after full within past (inr h) =
 
 -- the claims of a record are those that it needs
 pub sum-claims : (bound : List Record) (space : Space) (d : Digest) → sum (record_claims (bound_in space bound) d) ≡ 5 + 16 * needed bound space d
-unfolding record_claims needed
+unfolding needed
 sum-claims bound space d = sum-record (new_subtries (bound_in space bound) d 62)
 
 bind-full : (note : Note) (space : Space) (d : Digest) (r new : PlainRows) (seen after : List Event) (full : Refusal) → r.counter ≤ r.start.size → r.start.size < r.counter + (5 + 16 * needed r.bound space d)
     → BindIsRefused note r new seen after full → IsFirstRefused r.start.size r.counter (record_claims (bound_in space r.bound) d) full
-unfolding record_claims needed
+unfolding needed
 bind-full note space d r new seen after full within past is = part-refused note (new_subtries (bound_in space r.bound) d 62) r new seen after full within past is
 
 pub bind-refuses : (note : Note) (space : Space) (d : Digest) (r new : PlainRows) (seen after : List Event) (e : PortError) → r.counter ≤ r.start.size

@@ -1,18 +1,17 @@
 -- The record of a filled object may be given to a key that was bound after it.
-use Rattle.std.proofs.Common.{◌≡◌, ℕ, List, ◌∷◌, ◌++◌, None, ap, sym, ◌∙◌, subst}
+use Rattle.std.proofs.Common.{◌≡◌, ◌∷◌, ap, sym, ◌∙◌, subst}
 use Rattle.std.specs.declared.option.Option.{Option}
 use Rattle.std.specs.FinMap as fin
 use Rattle.cas_model.specs.declared.digest.Digest.{Digest}
 use Rattle.cas_model.specs.declared.note.Note.{Note}
 use Rattle.cas_model.specs.declared.place.Place.{Place}
 use Rattle.cas_model.specs.declared.place.Space.TheVariants.{Actions}
-use Rattle.cas_model.specs.declared.tables.Record.{Record}
 use Rattle.cas_model.specs.Start.{IsFilled}
 use Rattle.cas_model.specs.State.{State, empty_state, digest_cmp}
-use Rattle.cas_model.specs.Tables.{record_at, digest_at}
+use Rattle.cas_model.specs.Tables.{digest_at}
 use Rattle.cas_history.specs.declared.event.Act.TheVariants.{Bind}
 use Rattle.cas_history.specs.Grows.{Grows}
-use Rattle.cas_history.specs.Lawful.{IsLawfulRun, IsActionRule, Agrees}
+use Rattle.cas_history.specs.Lawful.{IsLawfulRun, Agrees}
 use Rattle.cas_history.proofs.Grown.{grows-more, filled-lasts}
 use Rattle.cas_history.proofs.Sound.{sound-run}
 use Rattle.cell_port.specs.declared.block.Bound.{Bound}

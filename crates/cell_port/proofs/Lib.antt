@@ -1,3 +1,4 @@
+pub mod Laid
 pub mod Opened
 pub mod RowLists
 pub mod Depths
@@ -5,6 +6,7 @@ pub mod PlainOpens
 pub mod RowsGrow
 pub mod PlainTies
 pub mod PlainBinds
+pub mod PlainKeeps
 pub mod ContentWords
 pub mod ClaimLists
 pub mod PartsBuilt

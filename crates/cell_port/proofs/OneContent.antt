@@ -1,5 +1,5 @@
 -- One content is stored through a port: what its contract tells of each call, put together.
-use Rattle.std.proofs.Common.{◌≡◌, ◌≢◌, ℕ, zero, suc, ◌+◌, ◌<◌, ◌≤◌, ◌⊎◌, ◌++◌, List, [], ◌∷◌, Bool, true, false, cond, ◌==◌, inl, inr, Some, None, length, drop, map, refl, ap, sym, ◌∙◌, subst, arith}
+use Rattle.std.proofs.Common.{◌≡◌, ℕ, zero, suc, ◌<◌, ◌++◌, List, [], ◌∷◌, Bool, true, cond, inl, inr, Some, None, length, drop, map, refl, ap, sym, ◌∙◌, subst, arith}
 use Rattle.std.specs.declared.option.Option.{Option}
 use Rattle.std.specs.FinMap as fin
 use Rattle.std.proofs.lemmas.Bool.{eq-eqb, ne_eqb}
@@ -14,12 +14,12 @@ use Rattle.cas_model.specs.declared.object.Object.{Object}
 use Rattle.cas_model.specs.declared.place.Place.{Place}
 use Rattle.cas_model.specs.declared.place.Space.TheVariants.{Objects}
 use Rattle.cas_model.specs.declared.tables.Record.{Record}
-use Rattle.cas_model.specs.Content.{content_places, content_bytes}
+use Rattle.cas_model.specs.Content.{content_bytes}
 use Rattle.cas_model.specs.Object.{object_digest}
 use Rattle.cas_model.specs.Start.{IsFilled, RefsBelow}
 use Rattle.cas_model.specs.State.{State}
 use Rattle.cas_model.specs.Step.{Entry}
-use Rattle.cas_model.specs.Tables.{Tables, place_of, record_at, words_at, cell_of, object_of, digests_at}
+use Rattle.cas_model.specs.Tables.{Tables, record_at, words_at, cell_of, object_of, digests_at}
 use Rattle.cas_history.specs.declared.event.Act.{Act}
 use Rattle.cas_history.specs.declared.event.Act.TheVariants.{Look, Bind, Claim, Fill}
 use Rattle.cas_history.specs.declared.event.Event.{Event}
@@ -40,7 +40,7 @@ use Rattle.cell_port.specs.declared.block.Filled.TheVariants.{Won, Lost}
 use Rattle.cell_port.specs.declared.block.OpenBlock.{OpenBlock}
 use Rattle.cell_port.specs.Calls.{event_of, IsLawful, Looked, BoundTo, BindClaims, HasClaimed, HasFilled, IsWholeFill, words_of, filled_as}
 use Rattle.cell_port.specs.Example.{blob, IsBlob, own_note, Lacks, HasHead, HasStored}
-use Rattle.cell_port.specs.View.{View, tables, tables_before, Foreign, open_words, written_words, all_written, close_block, IsOpenFor}
+use Rattle.cell_port.specs.View.{View, tables, tables_before, Foreign, written_words, all_written, close_block, IsOpenFor}
 use Rattle.cell_port.proofs.WrittenHeads.{head-words, all-written, length-some, words-some}
 
 -- ---- the history

@@ -12,7 +12,8 @@ use Rattle.cas_model.specs.State.{Member, AreBytes}
 use Rattle.cas_model.specs.Tables.{Tables, place_of, empty_start}
 use Rattle.cas_history.proofs.Ended.{empty-start}
 use Rattle.cell_port.specs.declared.block.PortError.{PortError}
-use Rattle.cell_port.specs.Claims.{record_claims, object_claims, action_claims, contents_claims, Refuses}
+use Rattle.cas_model.specs.Claims.{record_claims, object_claims, action_claims, contents_claims}
+use Rattle.cell_port.specs.Claims.{Refuses}
 use Rattle.cell_port.specs.Needed.{bound_in, needed}
 use Rattle.cell_port.specs.Parts.{places_of, with_object, with_action, IsBuilt, StoresObjects, PutsPairs, OpensAt}
 use Rattle.cell_port.specs.Tables.{PlainRows, as_start, empty_rows}

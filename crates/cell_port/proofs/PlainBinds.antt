@@ -28,7 +28,7 @@ claims-append : (note : Note) (k : ℕ) (xs seen : List Event) → claims_on not
 claims-append note zero xs seen = refl
 claims-append note (suc k) xs seen = ap (λ (es : List Event). event_of note (Claim 16) ∷ es) (claims-append note k xs seen)
 
-bind-append : (note : Note) (k : ℕ) (seen : List Event) → bind_claims note k seen ≡ bind_claims note k [] ++ seen
+pub bind-append : (note : Note) (k : ℕ) (seen : List Event) → bind_claims note k seen ≡ bind_claims note k [] ++ seen
 bind-append note k seen = claims-append note k (event_of note (Claim 5) ∷ []) seen
 
 claims-within : (speaks : ℕ → Bool) (note : Note) (k most : ℕ) → 5 + 16 * k ≤ most → BindClaims speaks note (bind_claims note k []) most

@@ -23,9 +23,10 @@ use Rattle.cas_history.proofs.Sound.{sound-run, content-some}
 use Rattle.cell_port.specs.declared.block.OpenBlock.{OpenBlock}
 use Rattle.cell_port.specs.Blank.{none_written}
 use Rattle.cell_port.specs.declared.block.Block.{Block}
-use Rattle.cell_port.specs.Calls.{event_of, IsWholeFill, WordIs, digest_word}
+use Rattle.cell_port.specs.declared.block.Filled.{Filled}
+use Rattle.cell_port.specs.Calls.{event_of, IsWholeFill, HasFilled, WordIs, filled_as, digest_word}
 use Rattle.cell_port.specs.PlainView.{plain_view}
-use Rattle.cell_port.specs.View.{open_words, write_word, close_block, IsOpenFor, written_words}
+use Rattle.cell_port.specs.View.{open_words, write_word, close_block, IsOpenFor, written_words, earlier}
 use Rattle.cell_port.specs.Tables.{PlainRows}
 use Rattle.cell_port.specs.Plain.{Ties, Tied, OpensBelow, claims_on, bind_claims, rows_filled}
 use Rattle.cell_port.proofs.RowsGrow.{rows-bound, rows-object, rows-action}
@@ -102,6 +103,19 @@ module _ (up : State) (r : PlainRows) (opened : List OpenBlock) (seen : List Eve
     opens = t.opens;
     rows = t.rows;
   }
+
+  -- a bound digest is bound again
+  pub tied-again : (note : Note) (space : Space) (digest : Digest) (p : Place) → place_of r.bound space digest ≡ Some p → Tied up r opened (event_of note (Bind space digest None) ∷ seen)
+  tied-again note space digest p at =
+      let found : place_of now.bound space digest ≡ Some p = ap (λ (rs : List Record). place_of rs space digest) t.ties.bound_is ∙ at in
+      let same : bound_by now space digest (place_of now.bound space digest) None ≡ now = ap (λ (o : Option Place). bound_by now space digest o None) found in
+      record {
+        ties = subst (λ (s : Tables). Ties s r) (sym same) t.ties;
+        lawful = (t.lawful, subst (λ (o : Option Place). MayBind now note.who o None) (sym found) tt);
+        within = t.within;
+        opens = subst (λ (s : Tables). OpensBelow s r.counter opened) (sym same) t.opens;
+        rows = t.rows;
+      }
 
   -- ---- claims
 
@@ -263,7 +277,7 @@ opens-placed s os n (suc had) cell value below = below
 opens-placed s os n zero cell value below = opens-cell s cell value os n below
 
 -- the counter and the size are as they were
-rows-counter : (r : PlainRows) (had : ℕ) (cell : Place) (value : ℕ) (words : List ℕ) → ((rows_filled had r cell value words).counter ≡ r.counter) × ((rows_filled had r cell value words).start ≡ r.start)
+pub rows-counter : (r : PlainRows) (had : ℕ) (cell : Place) (value : ℕ) (words : List ℕ) → ((rows_filled had r cell value words).counter ≡ r.counter) × ((rows_filled had r cell value words).start ≡ r.start)
 rows-counter r (suc had) cell value words = (refl, refl)
 rows-counter r zero cell value words = (refl, refl)
 
@@ -341,6 +355,22 @@ module _ (up : State) (r : PlainRows) (opened : List OpenBlock) (seen : List Eve
       tied-fill block.place.at block.length words whole.found whole.opened
       (ap length is ∙ length-written (open_words opened block.place.at) ∙ open-length opened note.who block.place.at block.length whole.opened) whole.bound whole.object
       (subst (λ (ws : List ℕ). IsObjectRule up (tables r.start seen) whole.found.digest block.place.at ws) (sym is) whole.lawful)
+
+-- the fill is what the port's contract says
+pub filled-view : (up : State) (r : PlainRows) (opened : List OpenBlock) (seen : List Event) → Tied up r opened seen → (note : Note) (cell : Place) (block : Block) (words : List ℕ)
+    → (start : Tables) (after : List Event) (left : List OpenBlock) (filled : Filled) → start ≡ r.start → after ≡ event_of note (Fill cell block.place.at words) ∷ seen
+    → left ≡ close_block opened block.place.at → words ≡ written_words (open_words opened block.place.at) → filled ≡ filled_as (cell_of r.filled cell.at) block.place.at
+    → HasFilled note cell (plain_view up r.start seen opened) (plain_view up start after left) block filled
+filled-view up r opened seen t note cell block words start after left filled start_is after_is left_is words_are filled_is = record {
+  others = [];
+  foreign = tt;
+  is =
+      (λ i. plain_view up (start_is i) (after_is i) (left_is i))
+      ∙ ap (λ (ws : List ℕ). plain_view up r.start (event_of note (Fill cell block.place.at ws) ∷ seen) (close_block opened block.place.at)) words_are;
+  answer =
+      filled_is ∙ ap (λ (cs : List Cell). filled_as (cell_of cs cell.at) block.place.at) (sym t.ties.filled_is)
+      ∙ sym (λ i. filled_as (cell_of (tables (start_is i) (earlier (after_is i))).filled cell.at) block.place.at);
+}
 
 -- ---- words
 

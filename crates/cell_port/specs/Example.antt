@@ -22,7 +22,6 @@ use Rattle.cas_history.specs.History.{history, of_session}
 use Rattle.cell_port.specs.declared.block.Block.{Block}
 use Rattle.cell_port.specs.declared.block.Filled.{Filled}
 use Rattle.cell_port.specs.declared.block.Filled.TheVariants.{Won}
-use Rattle.cell_port.specs.declared.block.OpenBlock.{OpenBlock}
 use Rattle.cell_port.specs.Calls.{event_of, BindClaims}
 use Rattle.cell_port.specs.View.{View, Foreign, tables}
 

@@ -5,6 +5,7 @@ pub mod Tables
 pub mod Needed
 pub mod Depth
 pub mod FilledRows
+pub mod Shown
 pub mod Plain
 pub mod PlainView
 pub mod Claims

@@ -13,7 +13,7 @@ use Rattle.cas_model.specs.Object.{object_digest}
 use Rattle.cas_model.specs.Primary.{primary}
 use Rattle.cas_model.specs.Start.{IsLawfulStart}
 use Rattle.cas_model.specs.Tables.{Tables, empty_start, place_of}
-use Rattle.cell_port.specs.Claims.{contents_claims, object_claims, action_claims}
+use Rattle.cas_model.specs.Claims.{contents_claims, object_claims, action_claims}
 use Rattle.cell_port.specs.FilledRows.{AreRows, filled_objects}
 use Rattle.cell_port.specs.Needed.{needed, bound_in}
 use Rattle.cell_port.specs.Tables.{PlainRows, as_start}

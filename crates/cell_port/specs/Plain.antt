@@ -15,9 +15,11 @@ use Rattle.cas_history.specs.Run.{tables, published}
 use Rattle.cell_port.specs.declared.block.OpenBlock.{OpenBlock}
 use Rattle.cell_port.specs.declared.block.PortError.{PortError}
 use Rattle.cell_port.specs.declared.block.PortError.TheVariants.{Full, Memory}
+use Rattle.cell_port.specs.declared.shown.Shown.{Shown}
 use Rattle.cell_port.specs.Calls.{event_of}
 use Rattle.cell_port.specs.FilledRows.{AreRows}
 use Rattle.cell_port.specs.Needed.{needed}
+use Rattle.cell_port.specs.Shown.{AreBelow, contents_of}
 use Rattle.cell_port.specs.Tables.{PlainRows}
 
 -- what contracts see of a plain port
@@ -119,3 +121,8 @@ pub record Tied (up : State) (r : PlainRows) (opened : List OpenBlock) (seen : L
   pub opens : OpensBelow (tables r.start seen) r.counter opened
   -- each filled cell names what it may, in the order in which they were filled
   pub rows : AreRows r.bound r.blocks r.filled
+
+-- a plain port keeps the words that its run published in the events alone, and its rows have the contents of the start
+pub record Keeps (up : State) (r : PlainRows) (opened : List OpenBlock) (seen : List Event) (shown : List Shown) : Type 0 where
+  pub tied : Tied up (record r { blocks = contents_of seen shown r }) opened seen
+  pub below : AreBelow (length seen) shown

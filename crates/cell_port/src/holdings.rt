@@ -3,22 +3,32 @@ ghost use Rattle.std.specs.Prelude.{◌≡◌, ◌≤◌, ◌++◌, length, reve
 ghost use Rattle.cas_model.specs.Content.{content_places, content_bytes, bytes_of};
 ghost use Rattle.cas_model.specs.Tables.{record_at, digest_at, digests_at, object_of};
 ghost use Rattle.cell_port.specs.FilledRows.{AreBound, AreReadable, AreRows, filled_objects, row_object};
+ghost use Rattle.cell_port.specs.Shown.{AreBelow, contents_of};
 
 use crate::searches::is_same_space;
+use crate::shown::{Shown, words_at};
 use crate::tables::PlainTables;
+use cas_history::Event;
 use cas_model::{Cell, Data, Digest, Object, Place, Refs, Space, split_head};
 use std::alloc::{AllocError, Global};
+use std::collections::VecDeque;
 
 /// The objects that the filled cells name, the first one filled first.
-pub fn objects(alloc: Global, tables: &PlainTables) -> Result<Vec<Object>, AllocError>
-    requires { AreRows tables.now.bound tables.now.blocks tables.now.filled }
-    ensures { IfOk result (λ objects. objects.items ≡ reverse (filled_objects tables.now.bound tables.now.blocks tables.now.filled)) }
+pub fn objects(
+    alloc: Global,
+    tables: &PlainTables,
+    events: &VecDeque<Event>,
+    shown: &VecDeque<Shown>,
+) -> Result<Vec<Object>, AllocError>
+    requires below { AreBelow (length events.now.items) shown.now.items }
+    requires rows { AreRows tables.now.bound (contents_of events.now.items shown.now.items tables.now) tables.now.filled }
+    ensures { IfOk result (λ objects. objects.items ≡ reverse (filled_objects tables.now.bound (contents_of events.now.items shown.now.items tables.now) tables.now.filled)) }
 {
     let mut objects = Vec::new(alloc);
     let mut i = tables.cell_count();
     while i > 0 {
         i -= 1;
-        add_object(alloc, tables, tables.cell(i), &mut objects)?;
+        add_object(alloc, tables, events, shown, tables.cell(i), &mut objects)?;
     }
     Ok(objects)
 }
@@ -27,17 +37,20 @@ pub fn objects(alloc: Global, tables: &PlainTables) -> Result<Vec<Object>, Alloc
 fn add_object(
     alloc: Global,
     tables: &PlainTables,
+    events: &VecDeque<Event>,
+    shown: &VecDeque<Shown>,
     cell: Cell,
     objects: &mut Vec<Object>,
 ) -> Result<(), AllocError>
-    requires { AreReadable tables.now.bound tables.now.blocks (record_at tables.now.bound cell.of.at) cell.value }
-    ensures { OnOk result (objects.new.items ≡ objects.old.items ++ row_object tables.now.bound tables.now.blocks (record_at tables.now.bound cell.of.at) cell.value) }
+    requires below { AreBelow (length events.now.items) shown.now.items }
+    requires readable { AreReadable tables.now.bound (contents_of events.now.items shown.now.items tables.now) (record_at tables.now.bound cell.of.at) cell.value }
+    ensures { OnOk result (objects.new.items ≡ objects.old.items ++ row_object tables.now.bound (contents_of events.now.items shown.now.items tables.now) (record_at tables.now.bound cell.of.at) cell.value) }
 {
     let Some(record_) = tables.record_at(cell.of) else {
         return Ok(());
     };
     if is_same_space(record_.space, Space::Objects)
-        && let Some(words) = tables.words_at(cell.value)
+        && let Some(words) = words_at(tables, events, shown, cell.value)
     {
         objects.push(read_object(alloc, tables, words)?)?;
     }

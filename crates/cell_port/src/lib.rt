@@ -13,6 +13,7 @@ mod parts;
 mod plain;
 mod port;
 mod searches;
+mod shown;
 mod steps;
 mod subtries;
 mod tables;

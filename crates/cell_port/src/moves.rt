@@ -5,7 +5,9 @@ ghost use Rattle.cas_model.specs.Tables.{place_of, cell_of};
 ghost use Rattle.cell_port.specs.Calls.{event_of, filled_as};
 ghost use Rattle.cell_port.specs.Needed.{needed};
 ghost use Rattle.cell_port.specs.Plain.{BindsNew, BindIsRefused, BindStays, bind_claims, rows_filled};
+ghost use Rattle.cell_port.specs.Shown.{shown_more};
 
+use crate::shown::Shown;
 use crate::tables::PlainTables;
 use crate::{Filled, PortError};
 use cas_history::{Act, Event};
@@ -87,28 +89,32 @@ fn add_claims(events: &mut VecDeque<Event>, note: Note, subtries: u64)
     }
 }
 
-/// Fills the cell of an object's record with a content, where it is 0.
+/// Fills the cell of an object's record with a content, where it is 0. The event alone keeps the words.
 pub fn publish(
-    alloc: Global,
     tables: &mut PlainTables,
     events: &mut VecDeque<Event>,
+    shown: &mut VecDeque<Shown>,
     note: Note,
     of: Place,
     value: u64,
     words: Words,
 ) -> Result<Filled, AllocError>
-    requires { 0 < length words }
     ensures answer { IfOk result (λ filled. filled ≡ filled_as (cell_of tables.old.filled of.at) value) }
-    ensures rows { OnOk result (tables.new ≡ rows_filled (cell_of tables.old.filled of.at) tables.old of value words) }
+    ensures rows { OnOk result (tables.new ≡ rows_filled (cell_of tables.old.filled of.at) tables.old of value []) }
     ensures events { OnOk result (events.new.items ≡ event_of note (Act.Fill of value words) ∷ events.old.items) }
+    ensures shown { OnOk result (shown.new.items ≡ shown_more (cell_of tables.old.filled of.at) value (length events.old.items) shown.old.items) }
     ensures err_rows { OnErr result (tables.new ≡ tables.old) }
     ensures err_events { OnErr result (events.new.items ≡ events.old.items) }
+    ensures err_shown { OnErr result (shown.new.items ≡ shown.old.items) }
 {
     events.reserve(1)?;
+    shown.reserve(1)?;
     let had = tables.cell_of(of);
+    let before = events.len();
     if had == 0 {
-        let copy = Words::of(words.list().to_vec(alloc)?);
-        tables.publish(of, value, copy)?;
+        tables.fill(of, value)?;
+        let place = value;
+        shown.push_front_reserved(Shown { place, before });
         let act = Act::Fill(of, value, words);
         events.push_front_reserved(Event { note, act });
         return Ok(Filled::Won(value));

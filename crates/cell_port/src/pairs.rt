@@ -1,11 +1,12 @@
 // The actions of a plain port.
-ghost use Rattle.std.specs.Prelude.{◌≡◌, IfOk, OnOk};
+ghost use Rattle.std.specs.Prelude.{◌≡◌, List, IfOk, OnOk};
 ghost use Rattle.std.specs.BTreeMap as tree;
 ghost use Rattle.std.specs.FinMap as fin;
 ghost use Rattle.cas_model.specs.Contents.{actions_map};
 ghost use Rattle.cas_model.specs.declared.digest.Digest.{Digest};
 ghost use Rattle.std.specs.Ordering.{nat_cmp};
 ghost use Rattle.std.specs.Cmp.Lexicographic.{slice_cmp};
+ghost use Rattle.cas_model.specs.declared.tables.Content.{Content};
 ghost use Rattle.cas_model.specs.Tables.{record_at};
 ghost use Rattle.cell_port.specs.FilledRows.{AreRows, HoldsPairs, HasValue, filled_pairs, row_pair, value_over};
 
@@ -18,7 +19,7 @@ use std::collections::BTreeMap;
 
 /// The keys that the filled cells name, with their values, by rising key.
 pub fn pairs(alloc: Global, tables: &PlainTables) -> Result<Vec<Pair>, AllocError>
-    requires { AreRows tables.now.bound tables.now.blocks tables.now.filled }
+    requires { (blocks : List Content) × AreRows tables.now.bound blocks tables.now.filled }
     ensures { IfOk result (λ pairs. HoldsPairs tables.now.bound tables.now.filled pairs.items) }
 {
     let values = values(alloc, tables)?;
@@ -34,7 +35,7 @@ pub fn pairs(alloc: Global, tables: &PlainTables) -> Result<Vec<Pair>, AllocErro
 
 // The value of each key that the filled cells name.
 fn values(alloc: Global, tables: &PlainTables) -> Result<BTreeMap<[u8; 32], Digest>, AllocError>
-    requires { AreRows tables.now.bound tables.now.blocks tables.now.filled }
+    requires { (blocks : List Content) × AreRows tables.now.bound blocks tables.now.filled }
     ensures { IfOk result (λ values. (q : Digest) → tree.get (slice_cmp nat_cmp) values q.bytes ≡ fin.get (actions_map (filled_pairs tables.now.bound tables.now.filled)) q) }
 {
     let mut values = BTreeMap::new(alloc);

@@ -4,7 +4,8 @@ ghost use Rattle.cas_model.specs.Contents.{AreLawfulContents};
 ghost use Rattle.cas_model.specs.Tables.{empty_start};
 ghost use Rattle.cas_model.specs.Tables.{place_of};
 ghost use Rattle.cell_port.specs.Calls.{IsLawful, HasClaimed, ClaimRefused, BoundTo, BindRefused, Ticks, event_of};
-ghost use Rattle.cell_port.specs.Claims.{contents_claims, Refuses};
+ghost use Rattle.cas_model.specs.Claims.{contents_claims};
+ghost use Rattle.cell_port.specs.Claims.{Refuses};
 ghost use Rattle.cell_port.specs.FilledRows.{HoldsContents};
 ghost use Rattle.cell_port.specs.Parts.{OpensAt};
 ghost use Rattle.cell_port.specs.Plain.{bind_events, refused_events, HasSeen};
@@ -15,7 +16,8 @@ use crate::holdings::objects;
 use crate::moves::{bind_new, fill_cell, publish};
 use crate::pairs::pairs;
 use crate::parts::store_contents;
-use crate::searches::{take_open, whole_words, write_open};
+use crate::searches::{take_open, write_open};
+use crate::shown::{Shown, words_at};
 use crate::tables::PlainTables;
 use crate::{Block, Bound, CellPort, Filled, OpenBlock, PortError, Steps, Written};
 use cas_history::{Act, Event};
@@ -35,19 +37,21 @@ pub struct PlainPort<'u, U: Upstream> {
     tables: PlainTables,
     // The newest first.
     opened: VecDeque<OpenBlock>,
-    // The newest first.
+    // The newest first. It alone has the words that were published since the start.
     events: VecDeque<Event>,
+    // What was published since the start, the newest first.
+    shown: VecDeque<Shown>,
 }
 
 impl<'u, U: Upstream> Model for PlainPort<'u, U> {
     ghost use Rattle.std.specs.Option.{option_copied};
-    ghost use Rattle.cell_port.specs.Plain.{PlainValue, Tied, upstream_of};
+    ghost use Rattle.cell_port.specs.Plain.{PlainValue, Keeps, upstream_of};
 
     ghost Value = { PlainValue U };
 
     ghost view = { λ p. record { up = option_copied p.up; start = p.tables.start; seen = p.events.items; opened = p.opened.items } };
 
-    ghost invariant = { λ p. Tied (upstream_of U.state (option_copied p.up)) p.tables p.opened.items p.events.items };
+    ghost invariant = { λ p. Keeps (upstream_of U.state (option_copied p.up)) p.tables p.opened.items p.events.items p.shown.items };
 }
 
 impl<'u> PlainPort<'u, NoUpstream> {
@@ -66,6 +70,7 @@ impl<'u> PlainPort<'u, NoUpstream> {
             tables: PlainTables::new(alloc, size),
             opened: VecDeque::new(alloc),
             events: VecDeque::new(alloc),
+            shown: VecDeque::new(alloc),
         })
     }
 }
@@ -96,6 +101,7 @@ impl<'u> PlainPort<'u, NoUpstream> {
             tables: tables.settled(),
             opened: VecDeque::new(alloc),
             events: VecDeque::new(alloc),
+            shown: VecDeque::new(alloc),
         })
     }
 }
@@ -115,6 +121,7 @@ impl<'u, U: Upstream> PlainPort<'u, U> {
             tables,
             opened,
             events,
+            shown,
         } = self;
         PlainPort {
             alloc,
@@ -122,6 +129,7 @@ impl<'u, U: Upstream> PlainPort<'u, U> {
             tables,
             opened,
             events,
+            shown,
         }
     }
 
@@ -131,7 +139,7 @@ impl<'u, U: Upstream> PlainPort<'u, U> {
         ensures { IfOk result (λ contents. HoldsContents (port_tables self.now) contents.objects.items contents.actions.items) }
     {
         Ok(Contents {
-            objects: objects(self.alloc, &self.tables)?,
+            objects: objects(self.alloc, &self.tables, &self.events, &self.shown)?,
             actions: pairs(self.alloc, &self.tables)?,
         })
     }
@@ -147,6 +155,7 @@ impl<'u, U: Upstream> PlainPort<'u, U> {
             tables,
             opened: _,
             events,
+            shown: _,
         } = self;
         Events { tables, events }
     }
@@ -268,11 +277,11 @@ impl<'u, U: Upstream> CellPort for PlainPort<'u, U> {
         let Some(open) = take_open(&mut self.opened, at) else {
             unreachable!()
         };
-        let words = whole_words(self.alloc, &open.words)?;
+        let words = open.words.into_words();
         let filled = publish(
-            self.alloc,
             &mut self.tables,
             &mut self.events,
+            &mut self.shown,
             note,
             record_,
             at,
@@ -304,7 +313,7 @@ impl<'u, U: Upstream> CellPort for PlainPort<'u, U> {
         {
             return digest_word(&record_.digest, index);
         }
-        match self.tables.words_at(place.at) {
+        match words_at(&self.tables, &self.events, &self.shown, place.at) {
             Some(words) => words[index as usize],
             None => 0,
         }

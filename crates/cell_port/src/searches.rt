@@ -1,12 +1,11 @@
 // Searches in lists of rows, and in the open blocks of a port.
 ghost use Rattle.std.specs.Prelude.{◌≡◌, ◌<◌, ◌↔◌, length, IfOk, IfSome, IsSome, option_copied};
 ghost use Rattle.cas_model.specs.Tables.{place_of, record_at, words_at, same_space, same_digest};
-ghost use Rattle.cell_port.specs.View.{open_words, write_word, close_block, written_words};
+ghost use Rattle.cell_port.specs.View.{open_words, write_word, close_block};
 ghost use Rattle.cell_port.specs.Tables.{cell_or, first_at};
 
-use crate::{OpenBlock, Written};
-use cas_model::{Cell, Content, Digest, Place, Record, Space, Words};
-use std::alloc::{AllocError, Global};
+use crate::OpenBlock;
+use cas_model::{Cell, Content, Digest, Place, Record, Space};
 use std::collections::VecDeque;
 
 pub fn is_same_space(a: Space, b: Space) -> bool
@@ -112,11 +111,4 @@ pub fn take_open(opened: &mut VecDeque<OpenBlock>, place: u64) -> Option<OpenBlo
     } else {
         None
     }
-}
-
-/// The words that were written, with 0 for the others.
-pub fn whole_words(alloc: Global, words: &Written) -> Result<Words, AllocError>
-    ensures { IfOk result (λ list. list ≡ written_words words.now) }
-{
-    Ok(Words::of(words.list().iter().map(|w| w.unwrap_or(0)).collect(alloc)?))
 }

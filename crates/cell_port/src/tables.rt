@@ -13,7 +13,7 @@ use std::collections::VecDeque;
 use std::marker::Model;
 
 /// The tables of a region as plain lists, each with the newest row first: the rows of the start, and those that came
-/// after it.
+/// after it. The contents that a run publishes have no rows: their words are in the run's events.
 #[derive(Drop)]
 pub struct PlainTables {
     size: u64,

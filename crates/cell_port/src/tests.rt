@@ -4,7 +4,7 @@ ghost use Rattle.std.specs.Prelude.{◌≡◌, ◌<◌, ℕ, true};
 ghost use Rattle.cas_model.specs.State.{empty_state};
 ghost use Rattle.cell_port.specs.Calls.{HasWord};
 
-use crate::{CellPort, Events, Filled, PlainPort, PortError, Steps, store_content};
+use crate::{CellPort, Events, Filled, PlainPort, PortError, Steps, Written, store_content};
 use Move::{Bind, Claim, Fill, Look, Read, Room};
 use Space::{Actions, Objects};
 use cas_history::Act;
@@ -113,6 +113,28 @@ fn a_claim_past_the_end_moves_nothing(rt: HostRuntime) -> Result<(), Fail> {
             &[Claim(3570), Room(7, false), Claim(6)]
         )
     );
+    Ok(())
+}
+
+#[test]
+fn words_are_written_in_any_order(rt: HostRuntime) -> Result<(), Fail> {
+    let mut words = Written::none(rt.alloc(), 6)?;
+    // In its turn, before its turn twice, again, in its turn but after a later one, and never for the last.
+    for (index, word) in [
+        (0, 10),
+        (3, 13),
+        (2, 12),
+        (3, 33),
+        (0, 30),
+        (1, 11),
+        (4, 14),
+    ] {
+        if index < 6 {
+            words.set(index, word);
+        }
+    }
+    let wants: &[u64] = &[30, 11, 12, 33, 14, 0];
+    assert_eq!(rt; words.into_words().list(), wants);
     Ok(())
 }
 

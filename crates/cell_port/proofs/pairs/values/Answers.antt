@@ -23,7 +23,7 @@ loop-i-init c =
     )
 
 pub add_pair-requires : goal.add_pair-requires
-add_pair-requires c = row-value _ _ c.args.tables.now.filled (c.loop-i.i - 1) c.cell.result c.requires c.cell.ensures
+add_pair-requires c = row-value _ _ c.args.tables.now.filled (c.loop-i.i - 1) c.cell.result c.requires.1 c.cell.ensures
 
 pub loop-i-preserved : goal.loop-i-preserved
 loop-i-preserved c =

@@ -2,7 +2,7 @@ use Rattle.std.proofs.Common.{◌≡◌, ℕ, ◌+◌, ◌*◌, length, ap, sym,
 use Rattle.cas_model.specs.Content.{content_size}
 use Rattle.cas_model.specs.declared.place.Space.TheVariants.{Objects}
 use Rattle.cas_model.specs.Object.{object_digest}
-use Rattle.cell_port.specs.Claims.{record_claims}
+use Rattle.cas_model.specs.Claims.{record_claims}
 use Rattle.cell_port.specs.Needed.{bound_in, needed}
 use Rattle.cell_port.specs.Tables.{PlainRows}
 use Rattle.cell_port.proofs.ClaimLists.{bind-refuses, refuses-first, last-refuses, sum-claims}

@@ -1,4 +1,4 @@
-use Rattle.std.proofs.Common.{List, [], ◌∷◌, inr, subst, sym}
+use Rattle.std.proofs.Common.{[], ◌∷◌, inr, subst, sym}
 use Rattle.std.specs.FinMap as fin
 use Rattle.cas_model.specs.State.{digest_cmp}
 use Rattle.cell_port.specs.Calls.{HasWord}
