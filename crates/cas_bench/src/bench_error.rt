@@ -1,0 +1,44 @@
+// Why a piece was not timed.
+use region_core::BuildError;
+use std::alloc::{AllocError, AllocFailed};
+use std::io;
+
+/// Why a piece was not timed.
+#[derive(Debug, Drop)]
+pub enum BenchError {
+    /// The words are not a piece and a number of objects.
+    Words,
+    /// The clock, the words or an output failed.
+    Io(io::Error),
+    /// There is no memory.
+    Memory,
+    /// The objects do not fit into the largest region.
+    Full,
+}
+
+impl From<io::Error> for BenchError {
+    fn from(error: io::Error) -> BenchError {
+        BenchError::Io(error)
+    }
+}
+
+impl From<AllocError> for BenchError {
+    fn from(_error: AllocError) -> BenchError {
+        BenchError::Memory
+    }
+}
+
+impl<T: Drop> From<AllocFailed<T>> for BenchError {
+    fn from(_error: AllocFailed<T>) -> BenchError {
+        BenchError::Memory
+    }
+}
+
+impl From<BuildError> for BenchError {
+    fn from(error: BuildError) -> BenchError {
+        match error {
+            BuildError::Full(_) => BenchError::Full,
+            BuildError::Memory => BenchError::Memory,
+        }
+    }
+}

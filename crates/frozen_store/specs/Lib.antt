@@ -1,0 +1,4 @@
+pub mod Seen
+pub mod Gathers
+pub mod Reads
+pub mod Lists

@@ -1,0 +1,11 @@
+//! A closed region: reading it, and its contents.
+#![tactic(auto)]
+
+mod frozen;
+mod listing;
+mod reading;
+#[cfg(test)]
+mod tests;
+mod walk;
+
+pub use frozen::{Counts, Frozen};

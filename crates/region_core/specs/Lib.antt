@@ -1,0 +1,12 @@
+pub mod Words
+pub mod Heap
+pub mod Change
+pub mod Holds
+pub mod Leads
+pub mod Stands
+pub mod Goes
+pub mod Certificate
+pub mod Claims
+pub mod Inserts
+pub mod Builds
+pub mod Found
