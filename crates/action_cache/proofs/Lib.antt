@@ -1,0 +1,4 @@
+pub mod KeySteps
+pub mod KeySought
+pub mod KeyKept
+pub mod PutGot

@@ -1,0 +1,4 @@
+pub mod Keys
+pub mod Gets
+pub mod Puts
+pub mod Brings

@@ -1,0 +1,45 @@
+// The value of a key.
+ghost use Rattle.std.specs.Prelude.{◌≡◌, IfOk, OnErr};
+ghost use Rattle.cell_port.specs.Calls.{IsLawful};
+ghost use Rattle.graph_db.specs.Events.{SpeaksFor};
+ghost use Rattle.action_cache.specs.Gets.{HasGot, GetStops};
+
+use crate::keeping::seek_key;
+use cas_model::{Digest, Place, Who};
+use cell_port::{CellPort, Steps};
+use graph_db::record_digest;
+use std::alloc::AllocError;
+use std::marker::Brand;
+use std::sync::ledger::{Blank, Ledger};
+
+/// The value of a key: None exactly where the primary has none. An error comes only from the port.
+pub fn get<P: CellPort>(port: &mut P, who: Who, key: &Digest) -> Result<Option<Digest>, AllocError>
+    requires { SpeaksFor (P.view port.old) who }
+    ensures ok { IfOk result (HasGot who key.now (P.view port.old) (P.view port.new)) }
+    ensures err { OnErr result (GetStops who key.now (P.view port.old) (P.view port.new)) }
+    ensures lawful { IsLawful (P.view port.old) (P.view port.new) }
+{
+    get_counted::<Brand, P>(port, who, key, Blank::new(1))
+}
+
+fn get_counted<L: Ledger, P: CellPort>(
+    port: &mut P,
+    who: Who,
+    key: &Digest,
+    blank: Blank,
+) -> Result<Option<Digest>, AllocError>
+    requires name { blank.name ≡ L.name }
+    requires parts { blank.parts ≡ L.parts }
+    requires one { blank.parts ≡ 1 }
+    requires speaks { SpeaksFor (P.view port.old) who }
+    ensures ok { IfOk result (HasGot who key.now (P.view port.old) (P.view port.new)) }
+    ensures err { OnErr result (GetStops who key.now (P.view port.old) (P.view port.new)) }
+    ensures lawful { IsLawful (P.view port.old) (P.view port.new) }
+{
+    let mut steps: Steps<L> = Steps::new(blank);
+    let cell = seek_key(port, who, key, &mut steps)?;
+    if cell == 0 {
+        return Ok(None);
+    }
+    Ok(Some(record_digest(port, Place { at: cell })))
+}

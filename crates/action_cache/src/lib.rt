@@ -1,0 +1,11 @@
+//! Keys and their values over any port: the first value of a key stays, and the value is an object's digest.
+#![tactic(auto)]
+
+mod getting;
+mod keeping;
+mod putting;
+#[cfg(test)]
+mod tests;
+
+pub use getting::get;
+pub use putting::{bring, put};
