@@ -1,2 +1,4 @@
-pub mod StreamLemmas
 pub mod RunLemmas
+pub mod StreamLemmas
+pub mod WordLemmas
+pub mod OutputLemmas

@@ -1,16 +1,22 @@
 -- The status and the text of each answer.
 use Rattle.std.specs.Prelude.{ℕ, List, [], ◌∷◌, ◌++◌, codes}
 use Rattle.std.specs.Fmt.{decimal}
+use Rattle.cas_model.specs.declared.id.IdError.{IdError}
+use Rattle.cas_model.specs.declared.id.IdError.TheVariants.{BadPrefix, BadLength, BadDigit}
+use Rattle.cas_model.specs.Id.{id_text}
 use Rattle.cas_tool.specs.declared.answer.Answer.{Answer}
-use Rattle.cas_tool.specs.declared.answer.Answer.TheVariants.{Done, Usage, ReadFault, WriteFault, TooLarge, NoMemory}
-use Rattle.cas_tool.specs.declared.answer.Large.TheVariants.{Data}
-use Rattle.cas_tool.specs.declared.answer.UsageKind.TheVariants.{Words}
+use Rattle.cas_tool.specs.declared.answer.Answer.TheVariants.{Done, Missing, Usage, ReadFault, WriteFault, Poisoned, Dangling, TooLarge, NoMemory}
+use Rattle.cas_tool.specs.declared.answer.Large.TheVariants.{Data, References}
+use Rattle.cas_tool.specs.declared.answer.UsageKind.TheVariants.{Words, Operands, BadOperand}
 
 abbrev pub status_of : Answer → ℕ
 status_of Done = 0
+status_of (Missing digest) = 1
 status_of (Usage kind) = 2
 status_of ReadFault = 3
 status_of WriteFault = 4
+status_of (Poisoned wanted kept) = 8
+status_of (Dangling index digest) = 9
 status_of (TooLarge what number) = 12
 status_of NoMemory = 70
 
@@ -18,11 +24,23 @@ status_of NoMemory = 70
 abbrev pub line_with : List ℕ → List ℕ
 line_with words = codes "llvm-cas: " ++ words ++ 10 ∷ []
 
+-- the end of a line that says why an operand did not read
+abbrev pub reason_of : IdError → List ℕ
+reason_of BadPrefix = codes ": prefix" ++ 10 ∷ []
+reason_of BadLength = codes ": length" ++ 10 ∷ []
+reason_of (BadDigit k) = codes ": digit " ++ decimal k ++ 10 ∷ []
+
 -- the line for an answer, none for `Done`
 abbrev pub answer_line : Answer → List ℕ
 answer_line Done = []
+answer_line (Missing digest) = line_with (codes "missing " ++ id_text digest)
 answer_line (Usage Words) = line_with (codes "usage: bad words")
+answer_line (Usage (Operands n)) = codes "llvm-cas: usage: " ++ decimal n ++ codes " operands\n"
+answer_line (Usage (BadOperand k error)) = codes "llvm-cas: usage: operand " ++ decimal k ++ reason_of error
 answer_line ReadFault = line_with (codes "cannot read the input")
 answer_line WriteFault = line_with (codes "cannot write the output")
+answer_line (Poisoned wanted kept) = line_with (codes "poisoned " ++ id_text wanted ++ codes " " ++ id_text kept)
+answer_line (Dangling index digest) = line_with (codes "dangling " ++ decimal index ++ codes " " ++ id_text digest)
 answer_line (TooLarge Data number) = line_with (codes "too large: data " ++ decimal number)
+answer_line (TooLarge References number) = line_with (codes "too large: references " ++ decimal number)
 answer_line NoMemory = line_with (codes "no memory")

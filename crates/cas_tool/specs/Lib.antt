@@ -1,5 +1,6 @@
 pub mod Words
 pub mod Answer
+pub mod Output
 pub mod Reading
 pub mod Writing
 pub mod Front

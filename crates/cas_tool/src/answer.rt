@@ -1,16 +1,23 @@
 // What a run answers, and the status and the text of each answer.
-ghost use Rattle.std.specs.Prelude.{◌≡◌, IfOk};
+ghost use Rattle.std.specs.Prelude.{◌≡◌, ◌++◌, IfOk};
 ghost use Rattle.std.specs.String.{string_bytes};
-ghost use Rattle.cas_tool.specs.Answer.{answer_line, line_with, status_of};
+ghost use Rattle.cas_tool.specs.Answer.{answer_line, line_with, reason_of, status_of};
+ghost use Rattle.cas_tool.specs.declared.answer.Answer.TheVariants.{Poisoned, TooLarge, Usage};
 
 use crate::front::Front;
+use crate::output::push_id;
+use cas_model::{Digest, Id, IdError};
 use std::alloc::{AllocError, Global};
 
-/// Why the words are no command.
+/// Why the words are no command. The first of these that applies is answered.
 #[derive(Clone, Copy, Debug, PartialEq, Eq)]
 pub enum UsageKind {
     /// They do not read as one.
     Words,
+    /// The command does not take so many operands.
+    Operands(u64),
+    /// The operand at this index, counted from 0, is the first that does not read.
+    BadOperand(u64, IdError),
 }
 
 /// What passes its limit.
@@ -18,6 +25,8 @@ pub enum UsageKind {
 pub enum Large {
     /// The data of an object, in bytes.
     Data,
+    /// The references of an object.
+    References,
 }
 
 /// How a run ended. The statuses and texts are this project's own.
@@ -25,12 +34,18 @@ pub enum Large {
 pub enum Answer {
     /// All was done, and the output was written.
     Done,
+    /// The store has no object, or no value, for the digest that was asked for.
+    Missing(Digest),
     /// The words are no command.
     Usage(UsageKind),
     /// The source failed.
     ReadFault,
     /// The sink failed, after a part of the output.
     WriteFault,
+    /// The key has another value than the one that it was to be given.
+    Poisoned { wanted: Digest, kept: Digest },
+    /// The reference at this index, counted from 0, is the first that is absent. A put's value has the index 0.
+    Dangling { index: u32, digest: Digest },
     /// Something passes its limit; `number` is the first that is too large.
     TooLarge { what: Large, number: u64 },
     /// There was no memory.
@@ -45,6 +60,17 @@ pub struct Outcome {
     pub front: Front,
 }
 
+impl From<AllocError> for Answer {
+    ghost use Rattle.std.specs.Prelude.{◌≡◌};
+    ghost use Rattle.cas_tool.specs.declared.answer.Answer.TheVariants.{NoMemory};
+
+    ghost from_gives = { λ _ e. e ≡ NoMemory };
+
+    fn from(_: AllocError) -> Self {
+        Answer::NoMemory
+    }
+}
+
 impl Answer {
     /// The exit status of this answer.
     pub fn status(self) -> u8
@@ -52,9 +78,12 @@ impl Answer {
     {
         match self {
             Answer::Done => 0,
+            Answer::Missing(_) => 1,
             Answer::Usage(_) => 2,
             Answer::ReadFault => 3,
             Answer::WriteFault => 4,
+            Answer::Poisoned { .. } => 8,
+            Answer::Dangling { .. } => 9,
             Answer::TooLarge { .. } => 12,
             Answer::NoMemory => 70,
         }
@@ -65,23 +94,91 @@ impl Answer {
 pub fn answer_text(alloc: Global, answer: &Answer) -> Result<Vec<u8>, AllocError>
     ensures { IfOk result (λ text. text.items ≡ answer_line answer.now) }
 {
-    let line = match *answer {
-        Answer::Done => return Ok(Vec::new(alloc)),
-        Answer::Usage(UsageKind::Words) => line_of(alloc, "usage: bad words")?,
-        Answer::ReadFault => line_of(alloc, "cannot read the input")?,
-        Answer::WriteFault => line_of(alloc, "cannot write the output")?,
-        Answer::TooLarge {
-            what: Large::Data,
-            number,
-        } => format!(in alloc; "llvm-cas: too large: data {number}\n")?,
-        Answer::NoMemory => line_of(alloc, "no memory")?,
+    match *answer {
+        Answer::Done => Ok(Vec::new(alloc)),
+        Answer::Missing(digest) => {
+            let mut text = b"llvm-cas: missing ".to_vec(alloc)?;
+            push_id(alloc, &mut text, digest)?;
+            Ok(text)
+        }
+        Answer::Usage(kind) => usage_text(alloc, kind),
+        Answer::ReadFault => line_of(alloc, "cannot read the input"),
+        Answer::WriteFault => line_of(alloc, "cannot write the output"),
+        Answer::Poisoned { wanted, kept } => poisoned_text(alloc, wanted, kept),
+        Answer::Dangling { index, digest } => {
+            let mut text = format!(in alloc; "llvm-cas: dangling {index} ")?.into_bytes();
+            push_id(alloc, &mut text, digest)?;
+            Ok(text)
+        }
+        Answer::TooLarge { what, number } => large_text(alloc, what, number),
+        Answer::NoMemory => line_of(alloc, "no memory"),
+    }
+}
+
+fn usage_text(alloc: Global, kind: UsageKind) -> Result<Vec<u8>, AllocError>
+    ensures { IfOk result (λ text. text.items ≡ answer_line (Usage kind)) }
+{
+    match kind {
+        UsageKind::Words => line_of(alloc, "usage: bad words"),
+        UsageKind::Operands(count) => {
+            let line = format!(in alloc; "llvm-cas: usage: {count}")?;
+            with_end(line, b" operands\n")
+        }
+        UsageKind::BadOperand(index, error) => {
+            let line = format!(in alloc; "llvm-cas: usage: operand {index}")?;
+            with_end(line, &reason_text(alloc, error)?)
+        }
+    }
+}
+
+// A line with its end.
+fn with_end(line: String, end: &[u8]) -> Result<Vec<u8>, AllocError>
+    ensures { IfOk result (λ text. text.items ≡ string_bytes line ++ end.now) }
+{
+    let mut text = line.into_bytes();
+    text.extend_from_slice(end)?;
+    Ok(text)
+}
+
+// The end of a line that says why an operand did not read.
+fn reason_text(alloc: Global, error: IdError) -> Result<Vec<u8>, AllocError>
+    ensures { IfOk result (λ text. text.items ≡ reason_of error) }
+{
+    match error {
+        IdError::BadPrefix => b": prefix\n".to_vec(alloc),
+        IdError::BadLength => b": length\n".to_vec(alloc),
+        IdError::BadDigit(digit) => {
+            let line = format!(in alloc; ": digit {digit}\n")?;
+            Ok(line.into_bytes())
+        }
+    }
+}
+
+fn large_text(alloc: Global, what: Large, number: u64) -> Result<Vec<u8>, AllocError>
+    ensures { IfOk result (λ text. text.items ≡ answer_line (TooLarge what number)) }
+{
+    let line = match what {
+        Large::Data => format!(in alloc; "llvm-cas: too large: data {number}\n")?,
+        Large::References => format!(in alloc; "llvm-cas: too large: references {number}\n")?,
     };
     Ok(line.into_bytes())
 }
 
-// A line of standard error with these words.
-fn line_of(alloc: Global, words: &str) -> Result<String, AllocError>
-    ensures { IfOk result (λ line. string_bytes line ≡ line_with words.now) }
+fn poisoned_text(alloc: Global, wanted: Digest, kept: Digest) -> Result<Vec<u8>, AllocError>
+    ensures { IfOk result (λ text. text.items ≡ answer_line (Poisoned wanted kept)) }
 {
-    format!(in alloc; "llvm-cas: {words}\n")
+    let mut text = b"llvm-cas: poisoned ".to_vec(alloc)?;
+    let wanted = Id { digest: wanted }.text(alloc)?;
+    text.extend_from_slice(&wanted)?;
+    text.push(b' ')?;
+    push_id(alloc, &mut text, kept)?;
+    Ok(text)
+}
+
+// A line of standard error with these words.
+fn line_of(alloc: Global, words: &str) -> Result<Vec<u8>, AllocError>
+    ensures { IfOk result (λ line. line.items ≡ line_with words.now) }
+{
+    let line = format!(in alloc; "llvm-cas: {words}\n")?;
+    Ok(line.into_bytes())
 }

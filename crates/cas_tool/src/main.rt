@@ -2,11 +2,12 @@
 #![tactic(auto)]
 
 mod answer;
+mod call_run;
+mod command;
 mod front;
 mod input;
 mod output;
 mod run;
-mod store_run;
 mod streams;
 #[cfg(test)]
 mod tests;

@@ -1,23 +1,24 @@
 // The top call.
-ghost use Rattle.std.specs.Prelude.{◌≡◌, MatchResult};
+ghost use Rattle.std.specs.Prelude.{◌≡◌, IfOk, IfErr, MatchResult};
 ghost use Rattle.cas_outside.specs.Folder.{MayEnter};
 ghost use Rattle.cas_tool.specs.Answer.{status_of};
-ghost use Rattle.cas_tool.specs.Run.{Because, HasMade, Refuses, stop_answer, streams};
+ghost use Rattle.cas_tool.specs.Run.{Because, HasInput, HasMade, InputStops, Refuses, stop_answer, source_with, streams};
 
-use crate::answer::{Answer, Large, Outcome, UsageKind};
+use crate::answer::{Answer, Large, Outcome};
+use crate::call_run::run_call;
+use crate::command::Command;
 use crate::front::Front;
 use crate::input::{Stop, read_all};
 use crate::output::write_all;
-use crate::store_run::store_blob;
-use crate::words::is_make_blob;
+use crate::words::read_words;
 use cas_outside::{Folder, Gate, Sink, Source};
 use std::alloc::{AllocGlobal, Global};
 
 /// The most bytes that an object's data has.
 const MOST_DATA: usize = 16_777_215;
 
-/// Runs the command that the words, those after the program's name, say: it reads the source, makes the output, and
-/// writes it to the sink. The folder must not have been asked for one yet.
+/// Runs the command that the words, those after the program's name, say: it reads the source where the command has
+/// data, makes the output, and writes it to the sink. The folder must not have been asked for one yet.
 pub fn cas_run<R: AllocGlobal, F: Folder, S: Source, W: Sink, G: Gate>(
     rt: &R,
     words: &[String],
@@ -33,7 +34,7 @@ pub fn cas_run<R: AllocGlobal, F: Folder, S: Source, W: Sink, G: Gate>(
         (streams (S.left source.new) (S.faults source.new) (W.held sink.new) (W.faults sink.new)) result.front result.answer }
     ensures folder { F.view _folder.new ≡ F.view _folder.old }
 {
-    let (front, made) = make_blob(rt.alloc(), words, source, gate);
+    let (front, made) = make(rt.alloc(), words, source, gate);
     let answer = match made {
         Err(answer) => answer,
         Ok(text) => match write_all(sink, &text) {
@@ -49,22 +50,34 @@ pub fn cas_run<R: AllocGlobal, F: Folder, S: Source, W: Sink, G: Gate>(
 }
 
 // The run that these words say, on what the source gives, and its output.
-fn make_blob<S: Source, G: Gate>(
+fn make<S: Source, G: Gate>(
     alloc: Global,
     words: &[String],
     source: &mut S,
     gate: &G,
 ) -> (Front, Result<Vec<u8>, Answer>)
     ensures { MatchResult result.1
-        (λ text. HasMade words.now (S.left source.old) (S.left source.new) result.0 text.items)
-        (λ answer. Refuses words.now (S.left source.old) (S.left source.new) (S.faults source.old) (S.faults source.new) result.0 answer) }
+        (λ text. HasMade words.now (source_with (S.left source.old) (S.faults source.old)) (source_with (S.left source.new) (S.faults source.new)) result.0 text.items)
+        (λ answer. Refuses words.now (source_with (S.left source.old) (S.faults source.old)) (source_with (S.left source.new) (S.faults source.new)) result.0 answer) }
 {
-    if !is_make_blob(words) {
-        return (Front::none(), Err(Answer::Usage(UsageKind::Words)));
-    }
-    match read_all(alloc, source, MOST_DATA) {
-        Ok(data) => store_blob(alloc, data, gate),
+    let command = match read_words(alloc, words) {
+        Ok(command) => command,
+        Err(answer) => return (Front::none(), Err(answer)),
+    };
+    match read_input(alloc, &command, source) {
+        Ok(data) => run_call(alloc, command.shows(), command.call(data), gate),
         Err(stop) => (Front::none(), Err(stopped(stop))),
+    }
+}
+
+// The data of a command: all that the source gives where the command makes an object, and else none.
+fn read_input<S: Source>(alloc: Global, command: &Command, source: &mut S) -> Result<Vec<u8>, Stop>
+    ensures ok { IfOk result (λ bytes. HasInput command.now (source_with (S.left source.old) (S.faults source.old)) (source_with (S.left source.new) (S.faults source.new)) bytes.items) }
+    ensures err { IfErr result (λ stop. InputStops command.now (source_with (S.left source.old) (S.faults source.old)) (source_with (S.left source.new) (S.faults source.new)) stop) }
+{
+    match command {
+        Command::Make(_) => read_all(alloc, source, MOST_DATA),
+        _ => Ok(Vec::new(alloc)),
     }
 }
 

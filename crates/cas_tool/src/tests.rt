@@ -1,12 +1,20 @@
 // Runs over sources and sinks in memory: the worked answers, with ids that another implementation of SHA-256 computed.
 use crate::answer::{Answer, Large, UsageKind, answer_text};
+use crate::command::Shows;
+use crate::output::output_of;
 use crate::run::cas_run;
+use cas_model::{Call, Data, Digest, IdError, Object, Refs, Reply};
 use cas_outside::{MemSink, MemSource, NoFolder, NoGate};
 use std::test::Fail;
 
 const EMPTY: &str = "llvmcas://374708fff7719dd5979ec875d56cd2286f6d3cf7ec317a3b25632aab28ec37bb\n";
 
 const HELLO: &str = "llvmcas://e49773b3ddae167d5fd8e83f8d02fb7525c54e8127a14767c0edbe206315b669\n";
+
+/// The id of 32 zero bytes, which no object has.
+const ZERO: &str = "llvmcas://0000000000000000000000000000000000000000000000000000000000000000";
+
+const ABSENT: Digest = Digest { bytes: [0; 32] };
 
 const LARGEST: &str =
     "llvmcas://9c7b2683eab546699ecf72b99333ff169605686b5de0f6c33e4c2a4521323965\n";
@@ -100,23 +108,148 @@ fn faults_have_their_answers(rt: HostRuntime) -> Result<(), Fail> {
 
 #[test]
 fn other_words_are_refused(rt: HostRuntime) -> Result<(), Fail> {
-    let cases: [&[&str]; 6] = [
-        &[],
-        &["--cas", "c"],
-        &["--cas", "c", "--make-blob", "more"],
-        &["--make-blob", "--cas", "c"],
-        &["--cas", "c", "--make-node"],
-        &["--cas", "c", "--make-blob "],
+    let cases: [(&[&str], UsageKind); 12] = [
+        (&[], UsageKind::Words),
+        (&["--cas", "c"], UsageKind::Words),
+        (&["--make-blob", "--cas", "c"], UsageKind::Words),
+        (&["--cas", "c", "--make-blob "], UsageKind::Words),
+        (&["--cas", "c", "--make-blob", "--data"], UsageKind::Words),
+        (&["--cas", "c", "--make-node", "-"], UsageKind::Words),
+        (&["--cas", "c", "--make-blob", ZERO], UsageKind::Operands(1)),
+        (&["--cas", "c", "--cat-node-data"], UsageKind::Operands(0)),
+        (
+            &["--cas", "c", "--put-cache-key", "action:k"],
+            UsageKind::Operands(1),
+        ),
+        (
+            &["--cas", "c", "--make-node", ZERO, "llvmcas:", "x"],
+            UsageKind::BadOperand(1, IdError::BadPrefix),
+        ),
+        (
+            &["--cas", "c", "--cat-node-data", "llvmcas://12"],
+            UsageKind::BadOperand(0, IdError::BadLength),
+        ),
+        (
+            &["--cas", "c", "--put-cache-key", ZERO, "action:k"],
+            UsageKind::BadOperand(1, IdError::BadPrefix),
+        ),
     ];
-    for words in cases {
+    for (words, kind) in cases {
         let refused = run_words(&rt, words, b"hello".to_vec(rt.alloc())?, &[], &[])?;
-        assert_eq!(rt;
-            (refused.status, refused.answer),
-            (2, Answer::Usage(UsageKind::Words))
-        );
+        assert_eq!(rt; (refused.status, refused.answer), (2, Answer::Usage(kind)));
         assert_eq!(rt; refused.sink.written().len(), 0);
     }
     Ok(())
+}
+
+// The words of a node with so many references.
+fn node_words(rt: &HostRuntime, count: usize) -> Result<Vec<String>, Fail> {
+    let mut words = Vec::new(rt.alloc());
+    for word in ["--cas", "c", "--make-node"] {
+        words.push(word.to_string(rt.alloc())?)?;
+    }
+    for _ in 0..count {
+        words.push(ZERO.to_string(rt.alloc())?)?;
+    }
+    Ok(words)
+}
+
+#[test]
+fn an_object_has_at_most_65535_references(rt: HostRuntime) -> Result<(), Fail> {
+    let mut folder = NoFolder::new();
+    let mut source = MemSource::new(Vec::new(rt.alloc()), Vec::new(rt.alloc()));
+    let mut sink = MemSink::new(rt.alloc(), 100, 7, Vec::new(rt.alloc()))?;
+    let words = node_words(&rt, 65_536)?;
+    let outcome = cas_run(&rt, &words, &mut folder, &mut source, &mut sink, &NoGate);
+    let large = Answer::TooLarge {
+        what: Large::References,
+        number: 65_536,
+    };
+    assert_eq!(rt; (outcome.status, outcome.answer), (12, large));
+    Ok(())
+}
+
+#[test]
+fn an_empty_store_has_nothing(rt: HostRuntime) -> Result<(), Fail> {
+    let dangling = Answer::Dangling {
+        index: 0,
+        digest: ABSENT,
+    };
+    let abc = Digest::of_key(b"abc");
+    let cases: [(&[&str], u8, Answer); 5] = [
+        (&["--make-node", ZERO], 9, dangling),
+        (&["--put-cache-key", "action:k", ZERO], 9, dangling),
+        (&["--cat-node-data", ZERO], 1, Answer::Missing(ABSENT)),
+        (&["--ls-node-refs", ZERO], 1, Answer::Missing(ABSENT)),
+        (
+            &["--get-cache-result", "action:abc"],
+            1,
+            Answer::Missing(abc),
+        ),
+    ];
+    for (command, status, answer) in cases {
+        let mut words = Vec::new(rt.alloc());
+        words.push("--cas")?;
+        words.push("c")?;
+        for word in command {
+            words.push(*word)?;
+        }
+        let ran = run_words(&rt, &words, b"x".to_vec(rt.alloc())?, &[], &[])?;
+        assert_eq!(rt; (ran.status, ran.answer), (status, answer));
+        assert_eq!(rt; ran.sink.written().len(), 0);
+    }
+    let text = answer_text(rt.alloc(), &Answer::Missing(abc))?;
+    let wanted =
+        "llvm-cas: missing llvmcas://ba7816bf8f01cfea414140de5dae2223b00361a396177a9cb410ff61f20015ad\n";
+    assert_eq!(rt; text.as_slice(), wanted.as_bytes());
+    Ok(())
+}
+
+#[test]
+fn a_node_without_references_is_a_blob(rt: HostRuntime) -> Result<(), Fail> {
+    let words = ["--cas", "c", "--make-node"];
+    let hello = run_words(&rt, &words, b"hello".to_vec(rt.alloc())?, &[], &[])?;
+    assert_eq!(rt; (hello.status, hello.answer), (0, Answer::Done));
+    assert_eq!(rt; hello.sink.written(), HELLO.as_bytes());
+    Ok(())
+}
+
+#[test]
+fn replies_have_their_output(rt: HostRuntime) -> Result<(), Fail> {
+    let hello = Digest::of(&[], b"hello");
+    let object = Object {
+        refs: Refs::of(rt.alloc(), &[hello, hello])?,
+        data: Data::of(rt.alloc(), b"some data")?,
+    };
+    let load = Call::Load(ABSENT);
+    let found = Reply::Found(object);
+    let bytes = output_of(rt.alloc(), Shows::Data, &load, &found);
+    assert_eq!(rt; text_in(&bytes), Some(b"some data".as_slice()));
+    let lines = output_of(rt.alloc(), Shows::References, &load, &found);
+    let wanted = format!(in rt.alloc(); "{HELLO}{HELLO}")?;
+    assert_eq!(rt; text_in(&lines), Some(wanted.as_bytes()));
+    let key = Digest::of_key(b"k");
+    let kept = Reply::Kept(hello);
+    let same = output_of(rt.alloc(), Shows::Data, &Call::Put(key, hello), &kept);
+    let line = format!(in rt.alloc(); "kept {HELLO}")?;
+    assert_eq!(rt; text_in(&same), Some(line.as_bytes()));
+    let poisoned = output_of(rt.alloc(), Shows::Data, &Call::Put(key, ABSENT), &kept);
+    let wanted = Answer::Poisoned {
+        wanted: ABSENT,
+        kept: hello,
+    };
+    assert_eq!(rt; poisoned.err(), Some(wanted));
+    let hit = output_of(rt.alloc(), Shows::Data, &Call::Get(key), &Reply::Hit(hello));
+    assert_eq!(rt; text_in(&hit), Some(HELLO.as_bytes()));
+    Ok(())
+}
+
+// The output, where there is one.
+fn text_in(made: &Result<Vec<u8>, Answer>) -> Option<&[u8]> {
+    match made {
+        Ok(text) => Some(text.as_slice()),
+        Err(_) => None,
+    }
 }
 
 #[test]
@@ -125,12 +258,54 @@ fn each_answer_has_its_text(rt: HostRuntime) -> Result<(), Fail> {
         what: Large::Data,
         number: 16_777_216,
     };
+    let many = Answer::TooLarge {
+        what: Large::References,
+        number: 65_536,
+    };
+    let dangling = Answer::Dangling {
+        index: 7,
+        digest: ABSENT,
+    };
+    let poisoned = Answer::Poisoned {
+        wanted: ABSENT,
+        kept: ABSENT,
+    };
+    let operand = |error| Answer::Usage(UsageKind::BadOperand(3, error));
     let cases = [
         (Answer::Done, ""),
+        (
+            Answer::Missing(ABSENT),
+            "llvm-cas: missing llvmcas://0000000000000000000000000000000000000000000000000000000000000000\n",
+        ),
         (
             Answer::Usage(UsageKind::Words),
             "llvm-cas: usage: bad words\n",
         ),
+        (
+            Answer::Usage(UsageKind::Operands(12)),
+            "llvm-cas: usage: 12 operands\n",
+        ),
+        (
+            operand(IdError::BadPrefix),
+            "llvm-cas: usage: operand 3: prefix\n",
+        ),
+        (
+            operand(IdError::BadLength),
+            "llvm-cas: usage: operand 3: length\n",
+        ),
+        (
+            operand(IdError::BadDigit(5)),
+            "llvm-cas: usage: operand 3: digit 5\n",
+        ),
+        (
+            poisoned,
+            "llvm-cas: poisoned llvmcas://0000000000000000000000000000000000000000000000000000000000000000 llvmcas://0000000000000000000000000000000000000000000000000000000000000000\n",
+        ),
+        (
+            dangling,
+            "llvm-cas: dangling 7 llvmcas://0000000000000000000000000000000000000000000000000000000000000000\n",
+        ),
+        (many, "llvm-cas: too large: references 65536\n"),
         (Answer::ReadFault, "llvm-cas: cannot read the input\n"),
         (Answer::WriteFault, "llvm-cas: cannot write the output\n"),
         (large, "llvm-cas: too large: data 16777216\n"),

@@ -1,0 +1,65 @@
+// Commands: what the words ask for.
+ghost use Rattle.std.specs.Prelude.{◌≡◌, Some};
+ghost use Rattle.cas_tool.specs.Output.{call_of, shown_by};
+
+use cas_model::{Call, Data, Digest, Object, Refs};
+
+/// The commands, by the word that names each.
+#[derive(Clone, Copy, Debug, PartialEq, Eq)]
+pub enum Verb {
+    MakeBlob,
+    MakeNode,
+    CatNodeData,
+    LsNodeRefs,
+    PutCacheKey,
+    GetCacheResult,
+}
+
+/// A command with its operands. The words are LLVM's tool's, the operands' texts this project's own.
+#[derive(Drop)]
+pub enum Command {
+    /// Store an object with these references and the data that the source gives.
+    Make(Refs),
+    /// Write the data of the object with this digest.
+    CatNodeData(Digest),
+    /// Write the references of the object with this digest.
+    LsNodeRefs(Digest),
+    /// Give a key a value.
+    PutCacheKey { key: Digest, value: Digest },
+    /// Write the value of this key.
+    GetCacheResult(Digest),
+}
+
+/// What a command shows of an object that it loads.
+#[derive(Clone, Copy, Debug, PartialEq, Eq)]
+pub enum Shows {
+    Data,
+    References,
+}
+
+impl Command {
+    /// What this command shows of an object.
+    pub fn shows(&self) -> Shows
+        ensures { result ≡ shown_by self.now }
+    {
+        match self {
+            Command::LsNodeRefs(_) => Shows::References,
+            _ => Shows::Data,
+        }
+    }
+
+    /// The one call of this command, with the data that the source gave.
+    pub fn call(self, data: Vec<u8>) -> Call
+        ensures { result ≡ call_of self «data».items }
+    {
+        match self {
+            Command::Make(refs) => Call::Store(Object {
+                refs,
+                data: Data::from_vec(data),
+            }),
+            Command::CatNodeData(digest) | Command::LsNodeRefs(digest) => Call::Load(digest),
+            Command::PutCacheKey { key, value } => Call::Put(key, value),
+            Command::GetCacheResult(key) => Call::Get(key),
+        }
+    }
+}
