@@ -1,5 +1,6 @@
 // Why a piece was not timed.
 use region_core::BuildError;
+use sessions::ScriptError;
 use std::alloc::{AllocError, AllocFailed};
 use std::io;
 
@@ -14,6 +15,8 @@ pub enum BenchError {
     Memory,
     /// The objects do not fit into the largest region.
     Full,
+    /// The lines are too many for a script.
+    Script,
 }
 
 impl From<io::Error> for BenchError {
@@ -39,6 +42,15 @@ impl From<BuildError> for BenchError {
         match error {
             BuildError::Full(_) => BenchError::Full,
             BuildError::Memory => BenchError::Memory,
+        }
+    }
+}
+
+impl From<ScriptError> for BenchError {
+    fn from(error: ScriptError) -> BenchError {
+        match error {
+            ScriptError::Memory => BenchError::Memory,
+            ScriptError::Line(_, _) | ScriptError::TooLong => BenchError::Script,
         }
     }
 }

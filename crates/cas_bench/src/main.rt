@@ -1,10 +1,11 @@
 //! Times one piece of the store on objects that are made up: prints a check value to standard output, and the
 //! nanoseconds that the piece took to standard error. It is not shipped.
 //!
-//! The words are the piece, one of `digest`, `build`, `look` and `contents`, and the number of objects, of 100 bytes
-//! each.
+//! The words are the piece, and a number: of objects of 100 bytes each for `digest`, `build`, `look` and `contents`, and
+//! of script lines for `parse` and `acts`.
 #![tactic(auto)]
 
+mod acts;
 mod bench_error;
 mod piece;
 mod sample;

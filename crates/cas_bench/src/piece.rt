@@ -1,4 +1,5 @@
 // The pieces that are timed.
+use crate::acts::{measure_acts, measure_parse};
 use crate::bench_error::BenchError;
 use crate::sample::{BYTES, bytes_of, contents_of};
 use cas_model::{Digest, Object, Space};
@@ -22,6 +23,10 @@ pub enum Piece {
     Look,
     /// The contents of a closed region.
     Contents,
+    /// A script of cached actions.
+    Parse,
+    /// The SHA-256 of the canonical bytes of each of their objects.
+    Acts,
 }
 
 /// What a piece gave, and how long it took.
@@ -41,11 +46,13 @@ impl Piece {
             "build" => Some(Piece::Build),
             "look" => Some(Piece::Look),
             "contents" => Some(Piece::Contents),
+            "parse" => Some(Piece::Parse),
+            "acts" => Some(Piece::Acts),
             _ => None,
         }
     }
 
-    /// Times the piece on so many objects.
+    /// Times the piece on so many objects, or lines.
     pub fn measure(
         self,
         clock: &impl Clock,
@@ -57,12 +64,14 @@ impl Piece {
             Piece::Build => measure_build(clock, alloc, count),
             Piece::Look => measure_look(clock, alloc, count),
             Piece::Contents => measure_contents(clock, alloc, count),
+            Piece::Parse => measure_parse(clock, alloc, count),
+            Piece::Acts => measure_acts(clock, alloc, count),
         }
     }
 }
 
-// A check value that depends on one more word.
-fn mixed(check: u64, word: u64) -> u64 {
+/// A check value that depends on one more word.
+pub fn mixed(check: u64, word: u64) -> u64 {
     check.wrapping_mul(31).wrapping_add(word)
 }
 
