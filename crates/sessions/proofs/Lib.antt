@@ -9,3 +9,8 @@ pub mod ParserSteps
 pub mod Progress
 pub mod Fitting
 pub mod FirstRefusal
+pub mod CallsMade
+pub mod Stood
+pub mod Turned
+pub mod LinesRun
+pub mod Rendered

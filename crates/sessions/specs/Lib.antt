@@ -6,3 +6,6 @@ pub mod Grammar
 pub mod Refusals
 pub mod Parsing
 pub mod Limits
+pub mod Turns
+pub mod Standing
+pub mod Rendering

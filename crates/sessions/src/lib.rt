@@ -1,7 +1,8 @@
-//! Scripts: the sessions of a batch, and the text that they come as.
+//! Scripts: the sessions of a batch, the text that they come as, running them in turn, and the output.
 #![tactic(auto)]
 
 mod argument;
+mod batch;
 mod cut;
 mod error;
 mod line;
@@ -9,10 +10,20 @@ mod number;
 mod parse;
 mod parser;
 mod refusal;
+mod replies;
+mod reply_text;
+mod run;
+#[cfg(test)]
+mod run_tests;
+mod said;
 mod script;
 #[cfg(test)]
 mod tests;
+mod turn;
 mod verb;
 
+pub use batch::render;
 pub use error::{LineKind, ScriptError};
+pub use replies::{Replies, ReplyList, SessionReplies, SessionReplyList};
+pub use run::run_in_turn;
 pub use script::{Line, Lines, Script, Session, Sessions};
