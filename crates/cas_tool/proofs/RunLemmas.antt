@@ -48,14 +48,19 @@ use Rattle.cell_port.specs.View.{View}
 use Rattle.graph_db.specs.Events.{AreOf, Goes, CallDecided, Last}
 use Rattle.generations.specs.Answers.{Answers, CostsAtMost, LoadStops, Stops}
 use Rattle.cas_tool.specs.declared.front.Front.{Front}
-use Rattle.cas_tool.specs.Front.{front_call, front_run, front_start, front_events, start_in, events_in, Answered, NotReached, Ran}
+use Rattle.cas_tool.specs.Front.{front_asked, front_run, front_start, front_events, start_in, events_in, Answered, Ran}
 use Rattle.cas_tool.specs.declared.answer.Answer.{Answer}
 use Rattle.cas_tool.specs.declared.answer.Answer.TheVariants as answer
 use Rattle.cas_tool.specs.declared.command.Command.{Command}
+use Rattle.cas_tool.specs.declared.command.Command.TheVariants as own
+use Rattle.cas_tool.specs.declared.command.Request.TheVariants as request
+use Rattle.cas_tool.specs.declared.command.Verb.{Verb}
+use Rattle.cas_tool.specs.declared.command.Verb.TheVariants.{MakeBlob, MakeNode, CatNodeData, LsNodeRefs, PutCacheKey, GetCacheResult, Batch}
+use Rattle.cas_tool.specs.declared.front.Asked.TheVariants as asked
 use Rattle.cas_tool.specs.declared.command.Shows.{Shows}
 use Rattle.cas_tool.specs.Output.{MayReply, call_of, refusal_of, shown_by}
-use Rattle.cas_tool.specs.Run.{CallMade, CallRefused, HasInput, HasMade, HasRefused, IsFresh, IsWithinLimits, Refuses, Source, WantsMemory}
-use Rattle.cas_tool.specs.Words.{Reads}
+use Rattle.cas_tool.specs.Run.{Because, CallMade, CallRefused, CommandDenied, CommandMade, CommandRefused, HasInput, IsCommandWithin, IsFresh, IsWithinLimits, Makes, Refuses, ScriptMade, ScriptRefused, Source, Streams, WroteNothing, source_of}
+use Rattle.cas_tool.specs.Words.{Reads, request_of}
 use Rattle.cas_tool.specs.History.{first, only, AreOfFirst, history_of, stored_by, RunsCall, AnswersCall}
 
 -- where the port speaks for all sessions, each event is the call's
@@ -104,7 +109,7 @@ none-left (entry ∷ earlier) h = absurd (omega arith)
 
 -- ---- the empty state
 
-over-empty : (p : State) → over p empty_state ≡ p
+pub over-empty : (p : State) → over p empty_state ≡ p
 over-empty p =
     same-states (over p empty_state) p
     (λ d. get-both p.objects fin.empty d ∙ ap (option_or (fin.get p.objects d)) (fin.get-empty digest_cmp d) ∙ alone (fin.get p.objects d))
@@ -164,7 +169,7 @@ stores-only : (call : Call) (start : Tables) (es : List Event) → StoresOnly (s
 stores-only call start [] = tt
 stores-only call start (e ∷ es) = event-among call (tables start es) e (only call e.note.who) (history_of call start es) refl (stores-only call start es)
 
-no-objects : HasOwnDigests empty_state
+pub no-objects : HasOwnDigests empty_state
 no-objects d o there = absurd (no-object d o there)
 
 exact : (call : Call) (seen : List Event) → IsLegal 4194304 empty_state (history_of call empty seen) (primary_of empty seen)
@@ -418,18 +423,18 @@ shown-seen : (front : Front) (e : EventsValue) (es : List Event) → front_run f
 shown-seen front e es run is = ap events_in run ∙ is
 
 -- the front shows the run of the port whose events it holds
-shown : (front : Front) (e : EventsValue) (s : Tables) (es : List Event) (P : Tables → List Event → Type 0) → front_run front ≡ Some e → e.start ≡ s → e.seen ≡ es → P s es → P (front_start front) (front_events front)
-shown front e s es P run start seen h =
+pub shown-events : (front : Front) (e : EventsValue) (s : Tables) (es : List Event) (P : Tables → List Event → Type 0) → front_run front ≡ Some e → e.start ≡ s → e.seen ≡ es → P s es → P (front_start front) (front_events front)
+shown-events front e s es P run start seen h =
     subst (λ (t : Tables). P t (front_events front)) (sym (shown-start front e s run start)) (subst (λ (fs : List Event). P s fs) (sym (shown-seen front e es run seen)) h)
 
 -- the front shows the run of this call
-pub shows-run : (front : Front) (call : Call) (e : EventsValue) (s : Tables) (es : List Event) → front_call front ≡ Some call → front_run front ≡ Some e → e.start ≡ s → e.seen ≡ es → RunsCall call s es
+pub shows-run : (front : Front) (call : Call) (e : EventsValue) (s : Tables) (es : List Event) → front_asked front ≡ asked.Once call → front_run front ≡ Some e → e.start ≡ s → e.seen ≡ es → RunsCall call s es
     → Ran call front
-shows-run front call e s es made run start seen h = record { made = made; runs = shown front e s es (λ t fs. RunsCall call t fs) run start seen h }
+shows-run front call e s es made run start seen h = record { made = made; runs = shown-events front e s es (λ t fs. RunsCall call t fs) run start seen h }
 
-pub shows-answer : (front : Front) (call : Call) (reply : Reply) (e : EventsValue) (s : Tables) (es : List Event) → front_call front ≡ Some call → front_run front ≡ Some e → e.start ≡ s → e.seen ≡ es
+pub shows-answer : (front : Front) (call : Call) (reply : Reply) (e : EventsValue) (s : Tables) (es : List Event) → front_asked front ≡ asked.Once call → front_run front ≡ Some e → e.start ≡ s → e.seen ≡ es
     → AnswersCall call reply s es → Answered call reply front
-shows-answer front call reply e s es made run start seen h = record { made = made; answers = shown front e s es (λ t fs. AnswersCall call reply t fs) run start seen h }
+shows-answer front call reply e s es made run start seen h = record { made = made; answers = shown-events front e s es (λ t fs. AnswersCall call reply t fs) run start seen h }
 
 -- ---- what a command answers
 
@@ -484,43 +489,81 @@ of-reply (Store o) (Hit x) given is = cc is
 of-reply (Store o) Miss given is = cc is
 of-reply (Store o) (Full a b c) given is = cc is
 
--- the words are this command and its data was read
-pub record HasRead (words : List (String Global)) (command : Command) (before after : Source) (bytes : List ℕ) : Type 0 where
-  pub reads : Reads words command
-  pub input : HasInput command before after bytes
+-- a reply's answer, as one of the command
+refused-as : (command : Command) (before after : Source) (front : Front) (given : Answer) → IsOfReply given → CommandDenied command before after front given → CommandRefused command before after front given
+refused-as command before after front (answer.Missing digest) of h = h
+refused-as command before after front (answer.Poisoned wanted kept) of h = h
+refused-as command before after front (answer.Dangling index digest) of h = h
+refused-as command before after front answer.Done of h = absurd of
+refused-as command before after front (answer.Usage kind) of h = absurd of
+refused-as command before after front answer.ReadFault of h = absurd of
+refused-as command before after front answer.WriteFault of h = absurd of
+refused-as command before after front (answer.BadScript line kind) of h = absurd of
+refused-as command before after front (answer.TooLarge what number) of h = absurd of
+refused-as command before after front answer.NoMemory of h = absurd of
 
--- a reply's answer, as one of the run
-refused-as : (words : List (String Global)) (before after : Source) (front : Front) (given : Answer) → IsOfReply given → HasRefused words before after front given → Refuses words before after front given
-refused-as words before after front (answer.Missing digest) of h = h
-refused-as words before after front (answer.Poisoned wanted kept) of h = h
-refused-as words before after front (answer.Dangling index digest) of h = h
-refused-as words before after front answer.Done of h = absurd of
-refused-as words before after front (answer.Usage kind) of h = absurd of
-refused-as words before after front answer.ReadFault of h = absurd of
-refused-as words before after front answer.WriteFault of h = absurd of
-refused-as words before after front (answer.TooLarge what number) of h = absurd of
-refused-as words before after front answer.NoMemory of h = absurd of
-
-wants-memory : (words : List (String Global)) (command : Command) (before after : Source) (bytes : List ℕ) (front : Front) → HasRead words command before after bytes
-    → NotReached front ⊎ Ran (call_of command bytes) front → WantsMemory words before after front
-wants-memory words command before after bytes front h how = record {
-  verb = h.reads.verb;
-  operands = h.reads.have.operands;
-  names = h.reads.have.names;
-  front_is = elim how [ inl none ↦ inl none | inr ran ↦ inr (record { command = command; reads = h.reads; bytes = bytes; input = h.input; ran = ran }) ];
-}
-
--- what the command's one call made, as what the run made
-pub made-of : (words : List (String Global)) (command : Command) (before after : Source) (bytes : List ℕ) (shows : Shows) (call : Call) (front : Front) (result : Result (Vec ℕ Global) Answer)
-    → HasRead words command before after bytes → shows ≡ shown_by command → call ≡ call_of command bytes
+-- what the command's one call made, as what the command made
+pub made-of : (command : Command) (before after : Source) (bytes : List ℕ) (shows : Shows) (call : Call) (front : Front) (result : Result (Vec ℕ Global) Answer)
+    → HasInput command before after bytes → shows ≡ shown_by command → call ≡ call_of command bytes
     → MatchResult result (λ text. CallMade shows call front text.items) (λ given. CallRefused call front given)
-    → MatchResult result (λ text. HasMade words before after front text.items) (λ given. Refuses words before after front given)
-made-of words command before after bytes shows call front (Ok text) h shown is made =
+    → MatchResult result (λ text. CommandMade command before after front text.items) (λ given. CommandRefused command before after front given)
+made-of command before after bytes shows call front (Ok text) input shown is made =
     let whole = subst (λ (x : Call). CallMade (shown_by command) x front text.items) is (subst (λ s. CallMade s call front text.items) shown made) in
-    record { has = record { command = command; reads = h.reads; bytes = bytes; input = h.input; reply = whole.reply; answered = whole.answered }; is = whole.is }
-made-of words command before after bytes shows call front (Err given) h shown is made =
+    record { has = record { bytes = bytes; input = input; reply = whole.reply; answered = whole.answered }; is = whole.is }
+made-of command before after bytes shows call front (Err given) input shown is made =
     elim (subst (λ (x : Call). CallRefused x front given) is made) [
-      | inl memory ↦ subst (λ (x : Answer). Refuses words before after front x) (sym memory.0) (wants-memory words command before after bytes front h memory.1)
-      | inr refused ↦ refused-as words before after front given (of-reply (call_of command bytes) refused.reply given refused.is)
-          (record { has = record { command = command; reads = h.reads; bytes = bytes; input = h.input; reply = refused.reply; answered = refused.answered }; is = refused.is })
+      | inl memory ↦ subst (λ (x : Answer). CommandRefused command before after front x) (sym memory.0)
+          (elim memory.1 [ inl none ↦ inl none | inr ran ↦ inr (record { bytes = bytes; input = input; ran = ran }) ])
+      | inr refused ↦ refused-as command before after front given (of-reply (call_of command bytes) refused.reply given refused.is)
+          (record { has = record { bytes = bytes; input = input; reply = refused.reply; answered = refused.answered }; is = refused.is })
     ]
+
+-- what a command or a batch made, as what the run made
+pub by-command : (words : List (String Global)) (command : Command) (before after : Source) (front : Front) (result : Result (Vec ℕ Global) Answer) → Reads words (request.Once command)
+    → MatchResult result (λ text. CommandMade command before after front text.items) (λ given. CommandRefused command before after front given)
+    → MatchResult result (λ text. Makes words before after front text.items) (λ given. Refuses words before after front given)
+by-command words command before after front (Ok text) reads made = inl (record { command = command; reads = reads; made = made })
+by-command words command before after front (Err given) reads made = inr (inl (record { command = command; reads = reads; refused = made }))
+
+pub by-batch : (words : List (String Global)) (before after : Source) (front : Front) (result : Result (Vec ℕ Global) Answer) → Reads words request.Batch
+    → MatchResult result (λ text. ScriptMade before after front text.items) (λ given. ScriptRefused before after front given)
+    → MatchResult result (λ text. Makes words before after front text.items) (λ given. Refuses words before after front given)
+by-batch words before after front (Ok text) reads made = inr (record { reads = reads; made = made })
+by-batch words before after front (Err given) reads made = inr (inr (record { reads = reads; refused = made }))
+
+-- the references of a command that was read are within the limits
+pub command-within : (verb : Verb) (digests : List Digest) (command : Command) → length digests ≤ 65535 → request_of verb digests ≡ Some (request.Once command) → IsCommandWithin command
+command-within MakeBlob [] command few is = let same : own.Make [] ≡ command = cc is in subst IsCommandWithin same (omega arith)
+command-within MakeNode refs command few is = let same : own.Make refs ≡ command = cc is in subst IsCommandWithin same few
+command-within CatNodeData (digest ∷ []) command few is = let same : own.CatNodeData digest ≡ command = cc is in subst IsCommandWithin same tt
+command-within LsNodeRefs (digest ∷ []) command few is = let same : own.LsNodeRefs digest ≡ command = cc is in subst IsCommandWithin same tt
+command-within PutCacheKey (key ∷ value ∷ []) command few is = let same : own.PutCacheKey key value ≡ command = cc is in subst IsCommandWithin same tt
+command-within GetCacheResult (key ∷ []) command few is = let same : own.GetCacheResult key ≡ command = cc is in subst IsCommandWithin same tt
+command-within MakeBlob (a ∷ more) command few is = cc is
+command-within CatNodeData [] command few is = cc is
+command-within CatNodeData (a ∷ b ∷ more) command few is = cc is
+command-within LsNodeRefs [] command few is = cc is
+command-within LsNodeRefs (a ∷ b ∷ more) command few is = cc is
+command-within PutCacheKey [] command few is = cc is
+command-within PutCacheKey (a ∷ []) command few is = cc is
+command-within PutCacheKey (a ∷ b ∷ c ∷ more) command few is = cc is
+command-within GetCacheResult [] command few is = cc is
+command-within GetCacheResult (a ∷ b ∷ more) command few is = cc is
+command-within Batch [] command few is = cc is
+command-within Batch (a ∷ more) command few is = cc is
+
+-- ---- the answers
+
+-- a run without output writes nothing
+pub with-nothing : (words : List (String Global)) (before after : Streams) (front : Front) (given : Answer) → Refuses words (source_of before) (source_of after) front given → WroteNothing before after
+    → Because words before after front given
+with-nothing words before after front answer.Done h wrote = elim h [ inl stop ↦ absurd stop.why | inr more ↦ elim more [ inl call ↦ absurd call.refused | inr batch ↦ absurd batch.refused ] ]
+with-nothing words before after front answer.WriteFault h wrote = elim h [ inl stop ↦ absurd stop.why | inr more ↦ elim more [ inl call ↦ absurd call.refused | inr batch ↦ absurd batch.refused ] ]
+with-nothing words before after front (answer.Missing digest) h wrote = record { wrote = wrote; why = h }
+with-nothing words before after front (answer.Usage kind) h wrote = record { wrote = wrote; why = h }
+with-nothing words before after front answer.ReadFault h wrote = record { wrote = wrote; why = h }
+with-nothing words before after front (answer.Poisoned wanted kept) h wrote = record { wrote = wrote; why = h }
+with-nothing words before after front (answer.Dangling index digest) h wrote = record { wrote = wrote; why = h }
+with-nothing words before after front (answer.BadScript line kind) h wrote = record { wrote = wrote; why = h }
+with-nothing words before after front (answer.TooLarge what number) h wrote = record { wrote = wrote; why = h }
+with-nothing words before after front answer.NoMemory h wrote = record { wrote = wrote; why = h }

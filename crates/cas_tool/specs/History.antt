@@ -1,5 +1,5 @@
 -- The one legal history of a run that makes one call.
-use Rattle.std.specs.Prelude.{◌≡◌, List, [], ◌∷◌, cond, Some, None}
+use Rattle.std.specs.Prelude.{◌≡◌, ℕ, ◌<◌, List, [], ◌∷◌, ◌++◌, true, cond, length, slice_get, Some, None}
 use Rattle.std.specs.declared.option.Option.{Option}
 use Rattle.cas_model.specs.declared.call.Call.{Call}
 use Rattle.cas_model.specs.declared.call.Call.TheVariants.{Store, Load, Put, Get}
@@ -17,7 +17,12 @@ use Rattle.cas_history.specs.Lawful.{IsLawfulRun}
 use Rattle.cas_history.specs.Loads.{LoadsAreExact}
 use Rattle.cas_history.specs.Run.{primary_of}
 use Rattle.cas_history.specs.Script.{Once, Follows, IsComplete}
+use Rattle.cas_history.specs.Script as script
 use Rattle.cas_history.specs.Theorem.{AllConduct}
+use Rattle.cell_port.specs.View.{View}
+use Rattle.sessions.specs.declared.replies.SessionReplies.{SessionReplies}
+use Rattle.sessions.specs.declared.script.Session.{Session}
+use Rattle.sessions.specs.Turns.{FollowScript, IsAnswered, history_lines}
 
 -- the first call of the first session
 abbrev pub first : Who
@@ -61,3 +66,47 @@ pub record AnswersCall (call : Call) (reply : Reply) (start : Tables) (seen : Li
   pub runs : RunsCall call start seen
   pub entries : history_of call start seen ≡ (record { who = first; call = call; reply = reply }) ∷ []
   pub complete : IsComplete (Once call ∷ []) (of_session 0 (history_of call start seen))
+
+-- ---- the sessions of a script
+
+-- what a port of an empty region shows, with no upstream, that has seen these events of its own
+abbrev pub shown : Tables → List Event → View
+shown start seen = record { region = 0; start = start; upstream = empty_state; seen = seen; speaks = λ _. true; takes_memory = true; opened = [] }
+
+-- each event is of one of so many sessions
+abbrev pub AreOfSessions : ℕ → List Event → Type 0
+AreOfSessions count [] = Unit {0}
+AreOfSessions count (event ∷ earlier) = (event.note.who.session < count) × AreOfSessions count earlier
+
+-- the objects that a line, lines and sessions store
+abbrev pub stored_by_line : script.Line → List Object
+stored_by_line (script.Once call) = stored_by call
+stored_by_line (script.Action key o) = o ∷ []
+
+abbrev pub stored_by_lines : List script.Line → List Object
+stored_by_lines [] = []
+stored_by_lines (line ∷ lines) = stored_by_line line ++ stored_by_lines lines
+
+abbrev pub stored_by_sessions : List Session → List Object
+stored_by_sessions [] = []
+stored_by_sessions (session ∷ sessions) = stored_by_lines (history_lines session.lines) ++ stored_by_sessions sessions
+
+-- The run's one history is legal from the empty state to that at its end. Its events are a lawful run from an empty region of the default
+-- size, and of the script's sessions alone. For one map of calls, the events of each session have conduct, its decided calls follow the
+-- session's lines with the indexes 0, 1, 2 and so on, the claims of each call ask for at most its cost, and a call that is not decided is the
+-- one that comes next. Each load finds exactly what was stored.
+pub record RunsScript (sessions : List Session) (start : Tables) (seen : List Event) : Type 0 where
+  pub start_is : start ≡ empty_start 4194304
+  pub lawful : IsLawfulRun empty_state start seen
+  pub own : AreOfSessions (length sessions) seen
+  pub calls : Who → Option Call
+  pub follow : FollowScript sessions calls (shown start seen)
+  pub legal : IsLegal 4194304 empty_state (history empty_state start calls seen) (primary_of start seen)
+  pub exact : LoadsAreExact empty_state (stored_by_sessions sessions) (history empty_state start calls seen)
+
+-- the run does so, and each session was answered to its end, by these replies
+pub record AnswersScript (sessions : List Session) (replies : List SessionReplies) (start : Tables) (seen : List Event) : Type 0 where
+  pub runs : RunsScript sessions start seen
+  pub many : length replies ≡ length sessions
+  pub each : (n : ℕ) (session : Session) (own : SessionReplies) → slice_get sessions n ≡ Some session → slice_get replies n ≡ Some own
+      → IsAnswered (shown start seen) runs.calls n (history_lines session.lines) own.replies

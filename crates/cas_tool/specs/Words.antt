@@ -7,10 +7,11 @@ use Rattle.std.specs.declared.option.Option.{Option}
 use Rattle.cas_model.specs.declared.digest.Digest.{Digest}
 use Rattle.cas_model.specs.declared.id.IdError.{IdError}
 use Rattle.cas_model.specs.Id.{IsIdOf, IsRefused, IsKeyOf, IsRefusedKey}
-use Rattle.cas_tool.specs.declared.command.Command.{Command}
 use Rattle.cas_tool.specs.declared.command.Command.TheVariants as command
+use Rattle.cas_tool.specs.declared.command.Request.{Request}
+use Rattle.cas_tool.specs.declared.command.Request.TheVariants as request
 use Rattle.cas_tool.specs.declared.command.Verb.{Verb}
-use Rattle.cas_tool.specs.declared.command.Verb.TheVariants.{MakeBlob, MakeNode, CatNodeData, LsNodeRefs, PutCacheKey, GetCacheResult}
+use Rattle.cas_tool.specs.declared.command.Verb.TheVariants.{MakeBlob, MakeNode, CatNodeData, LsNodeRefs, PutCacheKey, GetCacheResult, Batch}
 
 -- ---- the words
 
@@ -27,7 +28,8 @@ verb_of word =
     (cond (is_word word (codes "--ls-node-refs")) (Some LsNodeRefs)
     (cond (is_word word (codes "--put-cache-key")) (Some PutCacheKey)
     (cond (is_word word (codes "--get-cache-result")) (Some GetCacheResult)
-    None)))))
+    (cond (is_word word (codes "--batch")) (Some Batch)
+    None))))))
 
 -- the text begins with `-`
 abbrev pub begins_dash : List ℕ → Bool
@@ -57,6 +59,7 @@ takes CatNodeData n = n == 1
 takes LsNodeRefs n = n == 1
 takes PutCacheKey n = n == 2
 takes GetCacheResult n = n == 1
+takes Batch n = n == 0
 
 -- the operand at this index, counted from 0, is a key. Each other is an id
 abbrev pub is_key : Verb → ℕ → Bool
@@ -66,6 +69,7 @@ is_key MakeBlob k = false
 is_key MakeNode k = false
 is_key CatNodeData k = false
 is_key LsNodeRefs k = false
+is_key Batch k = false
 
 -- a key or an id of this digest
 abbrev pub IsOperand : Bool → Digest → List ℕ → Type 0
@@ -94,24 +98,26 @@ pub record IsFirstBad (verb : Verb) (operands : List (String Global)) (k : ℕ) 
 
 -- ---- the command
 
--- the command of a verb with these digests as operands
-abbrev pub command_of : Verb → List Digest → Option Command
-command_of MakeBlob [] = Some (command.Make [])
-command_of MakeBlob (a ∷ more) = None
-command_of MakeNode refs = Some (command.Make refs)
-command_of CatNodeData (digest ∷ []) = Some (command.CatNodeData digest)
-command_of CatNodeData [] = None
-command_of CatNodeData (a ∷ b ∷ more) = None
-command_of LsNodeRefs (digest ∷ []) = Some (command.LsNodeRefs digest)
-command_of LsNodeRefs [] = None
-command_of LsNodeRefs (a ∷ b ∷ more) = None
-command_of PutCacheKey (key ∷ value ∷ []) = Some (command.PutCacheKey key value)
-command_of PutCacheKey [] = None
-command_of PutCacheKey (a ∷ []) = None
-command_of PutCacheKey (a ∷ b ∷ c ∷ more) = None
-command_of GetCacheResult (key ∷ []) = Some (command.GetCacheResult key)
-command_of GetCacheResult [] = None
-command_of GetCacheResult (a ∷ b ∷ more) = None
+-- what a verb with these digests as operands asks for
+abbrev pub request_of : Verb → List Digest → Option Request
+request_of MakeBlob [] = Some (request.Once (command.Make []))
+request_of MakeBlob (a ∷ more) = None
+request_of MakeNode refs = Some (request.Once (command.Make refs))
+request_of CatNodeData (digest ∷ []) = Some (request.Once (command.CatNodeData digest))
+request_of CatNodeData [] = None
+request_of CatNodeData (a ∷ b ∷ more) = None
+request_of LsNodeRefs (digest ∷ []) = Some (request.Once (command.LsNodeRefs digest))
+request_of LsNodeRefs [] = None
+request_of LsNodeRefs (a ∷ b ∷ more) = None
+request_of PutCacheKey (key ∷ value ∷ []) = Some (request.Once (command.PutCacheKey key value))
+request_of PutCacheKey [] = None
+request_of PutCacheKey (a ∷ []) = None
+request_of PutCacheKey (a ∷ b ∷ c ∷ more) = None
+request_of GetCacheResult (key ∷ []) = Some (request.Once (command.GetCacheResult key))
+request_of GetCacheResult [] = None
+request_of GetCacheResult (a ∷ b ∷ more) = None
+request_of Batch [] = Some request.Batch
+request_of Batch (a ∷ more) = None
 
 -- the words name a command and their operands read, as these digests
 pub record HaveOperands (words : List (String Global)) (verb : Verb) (digests : List Digest) : Type 0 where
@@ -120,13 +126,13 @@ pub record HaveOperands (words : List (String Global)) (verb : Verb) (digests : 
   pub count : takes verb (length operands) ≡ true
   pub each : AreOperands verb 0 digests operands
 
--- the words are this command
-pub record Reads (words : List (String Global)) (made : Command) : Type 0 where
+-- the words ask for this
+pub record Reads (words : List (String Global)) (made : Request) : Type 0 where
   pub verb : Verb
   pub digests : List Digest
   pub have : HaveOperands words verb digests
   pub few : length digests ≤ 65535
-  pub is : command_of verb digests ≡ Some made
+  pub is : request_of verb digests ≡ Some made
 
 -- the words name no command
 abbrev pub NameNone : List (String Global) → Type 0

@@ -1,12 +1,13 @@
 // What a run answers, and the status and the text of each answer.
 ghost use Rattle.std.specs.Prelude.{◌≡◌, ◌++◌, IfOk};
 ghost use Rattle.std.specs.String.{string_bytes};
-ghost use Rattle.cas_tool.specs.Answer.{answer_line, line_with, reason_of, status_of};
-ghost use Rattle.cas_tool.specs.declared.answer.Answer.TheVariants.{Poisoned, TooLarge, Usage};
+ghost use Rattle.cas_tool.specs.Answer.{answer_line, kind_end, kind_number, line_with, reason_of, status_of};
+ghost use Rattle.cas_tool.specs.declared.answer.Answer.TheVariants.{BadScript, Poisoned, TooLarge, Usage};
 
 use crate::front::Front;
 use crate::output::push_id;
 use cas_model::{Digest, Id, IdError};
+use sessions::LineKind;
 use std::alloc::{AllocError, Global};
 
 /// Why the words are no command. The first of these that applies is answered.
@@ -27,6 +28,8 @@ pub enum Large {
     Data,
     /// The references of an object.
     References,
+    /// A script, in bytes.
+    Script,
 }
 
 /// How a run ended. The statuses and texts are this project's own.
@@ -46,6 +49,8 @@ pub enum Answer {
     Poisoned { wanted: Digest, kept: Digest },
     /// The reference at this index, counted from 0, is the first that is absent. A put's value has the index 0.
     Dangling { index: u32, digest: Digest },
+    /// The line with this number, counted from 1, is the first of the script that has no reading.
+    BadScript { line: u32, kind: LineKind },
     /// Something passes its limit; `number` is the first that is too large.
     TooLarge { what: Large, number: u64 },
     /// There was no memory.
@@ -84,6 +89,7 @@ impl Answer {
             Answer::WriteFault => 4,
             Answer::Poisoned { .. } => 8,
             Answer::Dangling { .. } => 9,
+            Answer::BadScript { .. } => 10,
             Answer::TooLarge { .. } => 12,
             Answer::NoMemory => 70,
         }
@@ -110,6 +116,7 @@ pub fn answer_text(alloc: Global, answer: &Answer) -> Result<Vec<u8>, AllocError
             push_id(alloc, &mut text, digest)?;
             Ok(text)
         }
+        Answer::BadScript { line, kind } => script_text(alloc, line, kind),
         Answer::TooLarge { what, number } => large_text(alloc, what, number),
         Answer::NoMemory => line_of(alloc, "no memory"),
     }
@@ -160,8 +167,44 @@ fn large_text(alloc: Global, what: Large, number: u64) -> Result<Vec<u8>, AllocE
     let line = match what {
         Large::Data => format!(in alloc; "llvm-cas: too large: data {number}\n")?,
         Large::References => format!(in alloc; "llvm-cas: too large: references {number}\n")?,
+        Large::Script => format!(in alloc; "llvm-cas: too large: script {number}\n")?,
     };
     Ok(line.into_bytes())
+}
+
+fn script_text(alloc: Global, line: u32, kind: LineKind) -> Result<Vec<u8>, AllocError>
+    ensures { IfOk result (λ text. text.items ≡ answer_line (BadScript line kind)) }
+{
+    let mut text = format!(in alloc; "llvm-cas: script line {line}")?.into_bytes();
+    let end = kind_text(alloc, kind)?;
+    text.extend_from_slice(&end)?;
+    Ok(text)
+}
+
+// The end of a line that says why a script's line has no reading.
+fn kind_text(alloc: Global, kind: LineKind) -> Result<Vec<u8>, AllocError>
+    ensures { IfOk result (λ text. text.items ≡ kind_end kind) }
+{
+    let number = number_of(kind);
+    let line = format!(in alloc; ": {number}\n")?;
+    Ok(line.into_bytes())
+}
+
+// The number of a line's refusal, as docs/SCRIPT.md has it.
+fn number_of(kind: LineKind) -> u8
+    ensures { result ≡ kind_number kind }
+{
+    match kind {
+        LineKind::BadVerb => 1,
+        LineKind::BadArguments => 2,
+        LineKind::BadId => 3,
+        LineKind::BadData => 4,
+        LineKind::BadReference => 5,
+        LineKind::NoSession => 6,
+        LineKind::TooManySessions => 7,
+        LineKind::TooManyLines => 8,
+        LineKind::TooManyRefs => 9,
+    }
 }
 
 fn poisoned_text(alloc: Global, wanted: Digest, kept: Digest) -> Result<Vec<u8>, AllocError>

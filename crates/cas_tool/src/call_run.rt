@@ -8,7 +8,7 @@ ghost use Rattle.cas_tool.specs.Run.{CallMade, CallRefused, IsFresh, IsWithinLim
 
 use crate::answer::Answer;
 use crate::command::Shows;
-use crate::front::Front;
+use crate::front::{Asked, Front};
 use crate::output::output_of;
 use cas_model::{Call, NoUpstream, Reply, Who};
 use cas_outside::Gate;
@@ -17,7 +17,7 @@ use generations::Unified;
 use std::alloc::{AllocError, Global};
 
 /// The size of a new region, in words: 32 MiB.
-const DEFAULT_SIZE: u64 = 4_194_304;
+pub const DEFAULT_SIZE: u64 = 4_194_304;
 
 /// The first call of the first session.
 const FIRST: Who = Who {
@@ -45,7 +45,7 @@ pub fn run_call<G: Gate>(
         Ok(reply) => output_of(alloc, shows, &call, &reply),
         Err(AllocError) => Err(Answer::NoMemory),
     };
-    (Front::of(call, port.into_events()), made)
+    (Front::of(Asked::Once(call), port.into_events()), made)
 }
 
 // Makes the first call. An empty region of the default size has room for each.

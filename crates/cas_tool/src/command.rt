@@ -13,9 +13,19 @@ pub enum Verb {
     LsNodeRefs,
     PutCacheKey,
     GetCacheResult,
+    Batch,
 }
 
-/// A command with its operands. The words are LLVM's tool's, the operands' texts this project's own.
+/// What the words ask for.
+#[derive(Drop)]
+pub enum Request {
+    /// One call of the store.
+    Once(Command),
+    /// The script that the source gives.
+    Batch,
+}
+
+/// A command that makes one call, with its operands. The words are LLVM's tool's, the operands' texts this project's own.
 #[derive(Drop)]
 pub enum Command {
     /// Store an object with these references and the data that the source gives.

@@ -8,6 +8,7 @@ mod front;
 mod input;
 mod output;
 mod run;
+mod script_run;
 mod streams;
 #[cfg(test)]
 mod tests;

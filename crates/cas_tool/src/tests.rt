@@ -3,8 +3,9 @@ use crate::answer::{Answer, Large, UsageKind, answer_text};
 use crate::command::Shows;
 use crate::output::output_of;
 use crate::run::cas_run;
-use cas_model::{Call, Data, Digest, IdError, Object, Refs, Reply};
+use cas_model::{Call, Data, Digest, Id, IdError, Object, Refs, Reply};
 use cas_outside::{MemSink, MemSource, NoFolder, NoGate};
+use sessions::LineKind;
 use std::test::Fail;
 
 const EMPTY: &str = "llvmcas://374708fff7719dd5979ec875d56cd2286f6d3cf7ec317a3b25632aab28ec37bb\n";
@@ -41,7 +42,7 @@ fn run_words(
     }
     let mut folder = NoFolder::new();
     let mut source = MemSource::new(bytes, failing_reads.to_vec(rt.alloc())?);
-    let mut sink = MemSink::new(rt.alloc(), 100, 7, failing_writes.to_vec(rt.alloc())?)?;
+    let mut sink = MemSink::new(rt.alloc(), 2_000, 7, failing_writes.to_vec(rt.alloc())?)?;
     let outcome = cas_run(rt, &owned, &mut folder, &mut source, &mut sink, &NoGate);
     Ok(Ran {
         status: outcome.status,
@@ -108,7 +109,9 @@ fn faults_have_their_answers(rt: HostRuntime) -> Result<(), Fail> {
 
 #[test]
 fn other_words_are_refused(rt: HostRuntime) -> Result<(), Fail> {
-    let cases: [(&[&str], UsageKind); 12] = [
+    let cases: [(&[&str], UsageKind); 14] = [
+        (&["--cas", "c", "--batch", "-"], UsageKind::Words),
+        (&["--cas", "c", "--batch", ZERO], UsageKind::Operands(1)),
         (&[], UsageKind::Words),
         (&["--cas", "c"], UsageKind::Words),
         (&["--make-blob", "--cas", "c"], UsageKind::Words),
@@ -244,6 +247,86 @@ fn replies_have_their_output(rt: HostRuntime) -> Result<(), Fail> {
     Ok(())
 }
 
+const BATCH: [&str; 3] = ["--cas", "c", "--batch"];
+
+#[test]
+fn a_batch_writes_the_replies_of_its_sessions(rt: HostRuntime) -> Result<(), Fail> {
+    let script = "session\nstore -\nstore - %1 %1 %1\nload %2\n";
+    let ran = run_words(&rt, &BATCH, script.as_bytes().to_vec(rt.alloc())?, &[], &[])?;
+    assert_eq!(rt; (ran.status, ran.answer), (0, Answer::Done));
+    let empty = EMPTY.trim_end();
+    let node = Id {
+        digest: three_of(Digest::of(&[], &[])),
+    };
+    let mut wanted = format!(in rt.alloc(); "0.1 stored {empty}\n0.2 stored ")?.into_bytes();
+    wanted.extend_from_slice(node.text(rt.alloc())?.as_slice())?;
+    let found = format!(in rt.alloc(); "\n0.3 found - {empty} {empty} {empty}\n")?;
+    wanted.extend_from_slice(found.as_bytes())?;
+    assert_eq!(rt; ran.sink.written(), wanted.as_slice());
+    Ok(())
+}
+
+// The digest of the object with no data that refers three times to this one.
+fn three_of(digest: Digest) -> Digest {
+    Digest::of(&[digest, digest, digest], &[])
+}
+
+#[test]
+fn sessions_run_in_turn(rt: HostRuntime) -> Result<(), Fail> {
+    let x = "llvmcas://7ee3b4a1b3e5d2b8a2a6b7c8d9e0f1a2b3c4d5e6f708192a3b4c5d6e7f809102";
+    let script = format!(in rt.alloc();
+        "session\nstore t:x\nload {x}\nsession\nget action:k\nput action:k {x}"
+    )?;
+    let ran = run_words(&rt, &BATCH, script.into_bytes(), &[], &[])?;
+    assert_eq!(rt; (ran.status, ran.answer), (0, Answer::Done));
+    let mut stored = b"0.1 stored ".to_vec(rt.alloc())?;
+    let id = Id {
+        digest: Digest::of(&[], b"x"),
+    };
+    stored.extend_from_slice(id.text(rt.alloc())?.as_slice())?;
+    let rest = format!(in rt.alloc(); "\n0.2 missing\n1.1 miss\n1.2 dangling 0 {x}\n")?;
+    stored.extend_from_slice(rest.as_bytes())?;
+    assert_eq!(rt; ran.sink.written(), stored.as_slice());
+    Ok(())
+}
+
+#[test]
+fn a_script_is_read_or_refused(rt: HostRuntime) -> Result<(), Fail> {
+    let bad = |line, kind| Answer::BadScript { line, kind };
+    let cases = [
+        ("", 0, Answer::Done),
+        ("# nothing\n\n", 0, Answer::Done),
+        (
+            "session\nstore t:a\nload %2",
+            10,
+            bad(3, LineKind::BadReference),
+        ),
+        ("load %1", 10, bad(1, LineKind::NoSession)),
+        ("session\n\nkeep t:a", 10, bad(3, LineKind::BadVerb)),
+    ];
+    for (script, status, answer) in cases {
+        let ran = run_words(&rt, &BATCH, script.as_bytes().to_vec(rt.alloc())?, &[], &[])?;
+        assert_eq!(rt; (ran.status, ran.answer), (status, answer));
+        assert_eq!(rt; ran.sink.written().len(), 0);
+    }
+    let most = vec![in rt.alloc(); b'#'; SCRIPT_BYTES]?;
+    let ran = run_words(&rt, &BATCH, most, &[], &[])?;
+    assert_eq!(rt; (ran.status, ran.answer), (0, Answer::Done));
+    let more = vec![in rt.alloc(); b'#'; SCRIPT_BYTES + 1]?;
+    let large = Answer::TooLarge {
+        what: Large::Script,
+        number: 16_777_217,
+    };
+    let ran = run_words(&rt, &BATCH, more, &[], &[])?;
+    assert_eq!(rt; (ran.status, ran.answer), (12, large));
+    let unread = run_words(&rt, &BATCH, b"session".to_vec(rt.alloc())?, &[1], &[])?;
+    assert_eq!(rt; (unread.status, unread.answer), (3, Answer::ReadFault));
+    Ok(())
+}
+
+/// The most bytes that a script has.
+const SCRIPT_BYTES: usize = 16_777_216;
+
 // The output, where there is one.
 fn text_in(made: &Result<Vec<u8>, Answer>) -> Option<&[u8]> {
     match made {
@@ -261,6 +344,14 @@ fn each_answer_has_its_text(rt: HostRuntime) -> Result<(), Fail> {
     let many = Answer::TooLarge {
         what: Large::References,
         number: 65_536,
+    };
+    let script = Answer::TooLarge {
+        what: Large::Script,
+        number: 16_777_217,
+    };
+    let bad = Answer::BadScript {
+        line: 3,
+        kind: LineKind::BadReference,
     };
     let dangling = Answer::Dangling {
         index: 7,
@@ -306,6 +397,8 @@ fn each_answer_has_its_text(rt: HostRuntime) -> Result<(), Fail> {
             "llvm-cas: dangling 7 llvmcas://0000000000000000000000000000000000000000000000000000000000000000\n",
         ),
         (many, "llvm-cas: too large: references 65536\n"),
+        (script, "llvm-cas: too large: script 16777217\n"),
+        (bad, "llvm-cas: script line 3: 5\n"),
         (Answer::ReadFault, "llvm-cas: cannot read the input\n"),
         (Answer::WriteFault, "llvm-cas: cannot write the output\n"),
         (large, "llvm-cas: too large: data 16777216\n"),

@@ -1,20 +1,20 @@
 // The words of a command, read by hand.
 ghost use Rattle.std.specs.Prelude.{◌≡◌, length, IfOk, not, IfErr, MatchOption, MatchResult, Some, true};
 ghost use Rattle.std.specs.String.{string_bytes};
-ghost use Rattle.cas_tool.specs.Words.{verb_of, begins_dash, no_options, takes, is_key, Names, NameNone, IsOperand, IsBadOperand, AreOperands, IsFirstBad, command_of, Reads};
+ghost use Rattle.cas_tool.specs.Words.{verb_of, begins_dash, no_options, takes, is_key, Names, NameNone, IsOperand, IsBadOperand, AreOperands, IsFirstBad, request_of, Reads};
 ghost use Rattle.cas_tool.specs.Run.{OperandsRefused, WordsRefused};
 
 use crate::answer::{Answer, Large, UsageKind};
-use crate::command::{Command, Verb};
+use crate::command::{Command, Request, Verb};
 use cas_model::{Digest, Id, IdError, Refs};
 use std::alloc::{AllocError, Global};
 
 /// The most references that an object has.
 const MOST_REFS: usize = 65_535;
 
-/// The command that the words, those after the program's name, are.
-pub fn read_words(alloc: Global, words: &[String]) -> Result<Command, Answer>
-    ensures { MatchResult result (λ command. Reads words.now command) (λ answer. WordsRefused words.now answer) }
+/// What the words, those after the program's name, ask for.
+pub fn read_words(alloc: Global, words: &[String]) -> Result<Request, Answer>
+    ensures { MatchResult result (λ request. Reads words.now request) (λ answer. WordsRefused words.now answer) }
 {
     let Some((verb, operands)) = named(words) else {
         return Err(Answer::Usage(UsageKind::Words));
@@ -29,7 +29,7 @@ pub fn read_words(alloc: Global, words: &[String]) -> Result<Command, Answer>
             number: digests.len() as u64,
         });
     }
-    Ok(verb.command(digests))
+    Ok(verb.request(digests))
 }
 
 // The command that the words name, and its operands: the words are `--cas`, any word, the command's and no option.
@@ -85,6 +85,8 @@ impl Verb {
             Some(Verb::PutCacheKey)
         } else if text == b"--get-cache-result".as_slice() {
             Some(Verb::GetCacheResult)
+        } else if text == b"--batch".as_slice() {
+            Some(Verb::Batch)
         } else {
             None
         }
@@ -95,7 +97,7 @@ impl Verb {
         ensures { result ≡ takes self count }
     {
         match self {
-            Verb::MakeBlob => count == 0,
+            Verb::MakeBlob | Verb::Batch => count == 0,
             Verb::MakeNode => true,
             Verb::CatNodeData | Verb::LsNodeRefs | Verb::GetCacheResult => count == 1,
             Verb::PutCacheKey => count == 2,
@@ -112,12 +114,12 @@ impl Verb {
         }
     }
 
-    // The command with these operands.
-    fn command(self, digests: Vec<Digest>) -> Command
+    // The request with these operands.
+    fn request(self, digests: Vec<Digest>) -> Request
         requires { takes self (length digests.items) ≡ true }
-        ensures { command_of self digests.items ≡ Some result }
+        ensures { request_of self digests.items ≡ Some result }
     {
-        match (self, digests.as_slice()) {
+        let command = match (self, digests.as_slice()) {
             (Verb::CatNodeData, [digest]) => Command::CatNodeData(*digest),
             (Verb::LsNodeRefs, [digest]) => Command::LsNodeRefs(*digest),
             (Verb::PutCacheKey, [key, value]) => Command::PutCacheKey {
@@ -126,8 +128,10 @@ impl Verb {
             },
             (Verb::GetCacheResult, [key]) => Command::GetCacheResult(*key),
             (Verb::MakeBlob | Verb::MakeNode, _) => Command::Make(Refs::from_vec(digests)),
+            (Verb::Batch, _) => return Request::Batch,
             _ => unreachable!(),
-        }
+        };
+        Request::Once(command)
     }
 }
 
