@@ -1,0 +1,14 @@
+pub mod Firsts
+pub mod Loops
+pub mod Lowest
+pub mod Reaching
+pub mod Roling
+pub mod Rows
+pub mod Summing
+pub mod Data
+pub mod Unique
+pub mod Links
+pub mod Lawful
+pub mod Denied
+pub mod Ending
+pub mod Sweeping

@@ -1,0 +1,70 @@
+-- The least place over slots, tables and tries.
+use Rattle.std.proofs.Common.{◌≡◌, ◌⊎◌, ℕ, ◌+◌, ◌<◌, ◌≤◌, min, List, length, Some, None, inl, inr, refl, sym, ap, ◌∙◌, subst, arith}
+use Rattle.std.specs.declared.option.Option.{Option}
+use Rattle.std.proofs.lemmas.Bool.{cases_eq, cases_lt}
+use Rattle.cas_model.specs.declared.place.Space.{Space}
+use Rattle.region_check.specs.declared.reach.Table.{Table}
+use Rattle.region_check.specs.declared.row.Row.{Row}
+use Rattle.region_core.specs.Words.{width}
+use Rattle.region_check.specs.Flaws.{IsSlotOf}
+use Rattle.region_check.specs.Reach.{slots_of, table_of, IsLed, AreTables}
+use Rattle.region_check.specs.Shown.{LeastWhere, IsLeastWhere, Shown, TableShown, TrieShown, lower_of}
+use Rattle.region_check.proofs.Reaching.{slots_are}
+use Rattle.region_check.proofs.Rows.{least_same}
+
+-- the lower one is the least of both
+pub least_lower : (P Q : ℕ → Type 0) (one two : Option ℕ) → LeastWhere P one → LeastWhere Q two → LeastWhere (λ n. P n ⊎ Q n) (lower_of one two)
+least_lower P Q None None p q = λ n x. elim x [ inl a ↦ p n a | inr b ↦ q n b ]
+least_lower P Q None (Some b) p q = record { here = inr q.here; least = λ m x. elim x [ inl a ↦ absurd (p m a) | inr y ↦ q.least m y ] }
+least_lower P Q (Some a) None p q = record { here = inl p.here; least = λ m x. elim x [ inl y ↦ p.least m y | inr b ↦ absurd (q m b) ] }
+least_lower P Q (Some a) (Some b) p q = elim (cases_lt a b) [
+  | inl low ↦
+      let is : min a b ≡ a = omega arith in
+      record { here = inl (subst P (sym is) p.here); least = λ m x. elim x [ inl y ↦ omega (arith, p.least m y) | inr y ↦ omega (arith, q.least m y) ] }
+  | inr high ↦
+      let is : min a b ≡ b = omega arith in
+      record { here = inr (subst Q (sym is) q.here); least = λ m x. elim x [ inl y ↦ omega (arith, p.least m y) | inr y ↦ omega (arith, q.least m y) ] }
+]
+
+-- a slot of a listed table is one of its trie
+pub slot_of_table : (words : List ℕ) (s : Space) (table : Table) (j : ℕ) → IsLed words s table → j < slots_of table → IsSlotOf words s (table.place + j)
+slot_of_table words s table j led h =
+    let wide = slots_are words s led.above table table.place led led.leads refl in
+    (led.above, j, (table.place, led.leads, omega (arith, h, wide), refl))
+
+module _ (words : List ℕ) (row : Row) (s : Space) where
+  pub table_none : (table : Table) (n : ℕ) → TableShown words row s table 0 n → ⊥
+  table_none table n x = omega (arith, x.1)
+
+  pub table_more : (table : Table) (j : ℕ) (old here : Option ℕ) → LeastWhere (TableShown words row s table j) old → LeastWhere (Shown words row s table.level (table.place + j)) here → LeastWhere (TableShown words row s table (j + 1)) (lower_of old here)
+  table_more table j old here a b =
+      least_same (λ n. TableShown words row s table j n ⊎ Shown words row s table.level (table.place + j) n) (TableShown words row s table (j + 1)) (lower_of old here) to back
+      (least_lower (TableShown words row s table j) (Shown words row s table.level (table.place + j)) old here a b)
+    where
+      to : (n : ℕ) → TableShown words row s table j n ⊎ Shown words row s table.level (table.place + j) n → TableShown words row s table (j + 1) n
+      to n (inl x) = (x.0, omega (arith, x.1), x.2)
+      to n (inr x) = (j, omega arith, x)
+
+      back : (n : ℕ) → TableShown words row s table (j + 1) n → TableShown words row s table j n ⊎ Shown words row s table.level (table.place + j) n
+      back n x = elim (cases_eq x.0 j) [
+        | inl same ↦ inr (subst (λ k. Shown words row s table.level (table.place + k) n) same x.2)
+        | inr other ↦ inl (x.0, omega (arith, x.1), x.2)
+      ]
+
+  pub trie_none : (tables : List Table) (n : ℕ) → TrieShown words row s tables 0 n → ⊥
+  trie_none tables n x = omega (arith, x.1)
+
+  pub trie_more : (tables : List Table) (k : ℕ) (table : Table) (old here : Option ℕ) → table ≡ table_of tables k → LeastWhere (TrieShown words row s tables k) old → LeastWhere (TableShown words row s table (slots_of table)) here → LeastWhere (TrieShown words row s tables (k + 1)) (lower_of old here)
+  trie_more tables k table old here is a b =
+      least_same (λ n. TrieShown words row s tables k n ⊎ TableShown words row s table (slots_of table) n) (TrieShown words row s tables (k + 1)) (lower_of old here) to back
+      (least_lower (TrieShown words row s tables k) (TableShown words row s table (slots_of table)) old here a b)
+    where
+      to : (n : ℕ) → TrieShown words row s tables k n ⊎ TableShown words row s table (slots_of table) n → TrieShown words row s tables (k + 1) n
+      to n (inl x) = (x.0, omega (arith, x.1), x.2)
+      to n (inr x) = (k, omega arith, subst (λ (t : Table). TableShown words row s t (slots_of t) n) is x)
+
+      back : (n : ℕ) → TrieShown words row s tables (k + 1) n → TrieShown words row s tables k n ⊎ TableShown words row s table (slots_of table) n
+      back n x = elim (cases_eq x.0 k) [
+        | inl same ↦ inr (subst (λ (t : Table). TableShown words row s t (slots_of t) n) (ap (table_of tables) same ∙ sym is) x.2)
+        | inr other ↦ inl (x.0, omega (arith, x.1), x.2)
+      ]

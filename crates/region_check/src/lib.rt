@@ -1,0 +1,20 @@
+//! The check of words that come from strangers: a closed region, or the first flaw by name and place.
+#![tactic(auto)]
+
+mod checking;
+mod contents;
+mod flaw;
+mod header;
+mod least;
+mod names;
+mod paths;
+mod reach;
+mod roles;
+mod row;
+mod sum;
+mod sweep;
+#[cfg(test)]
+mod tests;
+
+pub use checking::check;
+pub use flaw::{CheckError, Flaw, FlawKind};
