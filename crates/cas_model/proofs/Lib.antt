@@ -1,4 +1,6 @@
 pub mod CanonLemmas
 pub mod ContentLemmas
 pub mod Maps
+pub mod Subtries
+pub mod Fitting
 pub mod IdLemmas

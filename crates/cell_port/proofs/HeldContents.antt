@@ -1,5 +1,5 @@
 -- What the rows hold is the primary state, and can be stored again in this order.
-use Rattle.std.proofs.Common.{◌≡◌, ℕ, zero, suc, ◌<◌, ◌≤◌, ◌⊎◌, ◌++◌, List, [], ◌∷◌, Bool, true, false, cond, ◌==◌, inl, inr, Some, None, length, reverse, refl, ap, sym, ◌∙◌, subst, arith}
+use Rattle.std.proofs.Common.{◌≡◌, ℕ, zero, suc, ◌<◌, ◌≤◌, ◌⊎◌, ◌++◌, List, [], ◌∷◌, Bool, true, false, cond, ◌==◌, ◌&&◌, inl, inr, Some, None, length, reverse, refl, ap, sym, ◌∙◌, subst, arith}
 use Rattle.std.specs.declared.option.Option.{Option}
 use Rattle.std.specs.declared.cmp.Ordering.TheVariants.{Less}
 use Rattle.std.specs.FinMap as fin
@@ -17,6 +17,7 @@ use Rattle.cas_model.specs.declared.place.Space.TheVariants.{Objects, Actions}
 use Rattle.cas_model.specs.declared.tables.Cell.{Cell}
 use Rattle.cas_model.specs.declared.tables.Content.{Content}
 use Rattle.cas_model.specs.declared.tables.Record.{Record}
+use Rattle.cas_model.specs.Claims.{Fit, contents_claims, block_words}
 use Rattle.cas_model.specs.Content.{content_places}
 use Rattle.cas_model.specs.Contents.{contents_state, objects_map, actions_map, object_digests, pair_keys, AllMembers, AreStorable, ArePuttable}
 use Rattle.cas_model.specs.Object.{object_digest}
@@ -24,12 +25,14 @@ use Rattle.cas_model.specs.Primary.{primary, object_under, value_under, object_i
 use Rattle.cas_model.specs.Start.{IsTied}
 use Rattle.cas_model.specs.State.{State, digest_cmp, Member}
 use Rattle.cas_model.specs.Tables.{Tables, place_of, record_at, words_at, cell_of, object_of, digest_at, digests_at, digest_of_record, same_space, same_digest}
+use Rattle.cas_model.proofs.Fitting.{contents-fit}
 use Rattle.cas_model.proofs.Maps.{get-put, get-object, get-value, same-states, same-is, same-self, digest_total}
 use Rattle.cas_history.specs.Run.{tables}
 use Rattle.cas_history.proofs.Sound.{sound-run}
 use Rattle.cell_port.specs.declared.block.OpenBlock.{OpenBlock}
 use Rattle.cas_history.specs.declared.event.Event.{Event}
 use Rattle.cell_port.specs.FilledRows.{IsFilledIn, AreFilledIn, RowNames, IsRow, AreRows, filled_objects, filled_pairs, row_object, row_pair, object_with, HoldsPairs, HoldsContents}
+use Rattle.cell_port.specs.Needed.{bound_in}
 use Rattle.cell_port.specs.Plain.{Tied}
 use Rattle.cell_port.specs.Tables.{PlainRows}
 use Rattle.cell_port.proofs.PartsBuilt.{member-has}
@@ -358,3 +361,23 @@ holds-contents up r opened seen objects pairs t are holds =
       order = are ∙ (λ i. reverse (filled_objects (sym t.ties.bound_is i) (sym t.ties.blocks_is i) (sym t.ties.filled_is i)));
       rising = holds.rising;
     }
+
+-- a digest with a place is listed
+bound-listed : (rs : List Record) (space : Space) (d : Digest) (p : Place) → place_of rs space d ≡ Some p → Member d (bound_in space rs)
+bound-listed [] space d p is = cc
+bound-listed (r ∷ rs) space d p is = step (same_space r.space space) (same_digest r.digest d) refl is (λ h. bound-listed rs space d p h) where
+  step : (a b : Bool) → same_digest r.digest d ≡ b → cond (a && b) (Some r.place) (place_of rs space d) ≡ Some p → (place_of rs space d ≡ Some p → Member d (bound_in space rs))
+      → Member d (cond a (r.digest ∷ bound_in space rs) (bound_in space rs))
+  step true true same is again = inl (same-is r.digest d same)
+  step true false same is again = inr (again is)
+  step false b same is again = again is
+
+-- the claims of what a plain port holds end at or below its counter, and so they fit
+pub holds-fit : (up : State) (r : PlainRows) (opened : List OpenBlock) (seen : List Event) (objects : List Object) (pairs : List Pair) → Tied up r opened seen
+    → HoldsContents (tables r.start seen) objects pairs → Fit r.start.size 520 (contents_claims objects pairs)
+holds-fit up r opened seen objects pairs t holds =
+    let sound = sound-run up r.start seen t.lawful in
+    let listed : (space : Space) (d : Digest) (p : Place) → place_of (tables r.start seen).bound space d ≡ Some p → Member d (bound_in space r.bound) =
+    λ space d p at. bound-listed r.bound space d p (ap (λ (rs : List Record). place_of rs space d) (sym t.ties.bound_is) ∙ at) in
+    contents-fit (tables r.start seen) sound.tied sound.names objects pairs (bound_in Objects r.bound) (bound_in Actions r.bound) r.start.size holds.lawful holds.state (listed Objects) (listed Actions)
+    (omega (arith, t.paid, t.within, ap block_words t.ties.blocks_is))

@@ -55,7 +55,7 @@ module _ (r : PlainRows) (size claimed : ℕ) (objects : List Object) (pairs : L
   bound_events = event_of somebody (Bind Actions p.key (Some (record { at = r.counter }))) ∷ bind_claims somebody (needed r.bound Actions p.key) []
 
   t1 : Tied empty_state (record here { counter = (with_action r p).counter; bound = row ∷ r.bound }) [] bound_events
-  t1 = tied-bind empty_state here [] [] (tied-here r built.lawful built.rows) somebody Actions p.key (needed r.bound Actions p.key) unbound-key fits
+  t1 = tied-bind empty_state here [] [] (tied-here r built.lawful built.rows built.paid) somebody Actions p.key (needed r.bound Actions p.key) unbound-key fits (omega arith)
 
   abbrev now : Tables
   now = tables (as_start r) bound_events
@@ -88,7 +88,7 @@ module _ (r : PlainRows) (size claimed : ℕ) (objects : List Object) (pairs : L
   own-row = ap (λ (rs : List Record). record_at rs r.counter) t1.ties.bound_is ∙ ap (λ b. cond b (Some row) (record_at r.bound r.counter)) (eq-eqb r.counter r.counter refl)
 
   no-record : record_at r.bound r.counter ≡ None
-  no-record = (counter-free empty_state here [] [] (tied-here r built.lawful built.rows)).0
+  no-record = (counter-free empty_state here [] [] (tied-here r built.lawful built.rows built.paid)).0
 
   no-cell : cell_of r.filled r.counter ≡ 0
   no-cell = built.lawful.rooted r.counter no-record
@@ -134,4 +134,5 @@ module _ (r : PlainRows) (size claimed : ℕ) (objects : List Object) (pairs : L
     state = state-is;
     order = order-is;
     rows = t2.rows;
+    paid = t2.paid;
   }

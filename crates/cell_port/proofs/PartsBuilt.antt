@@ -32,7 +32,7 @@ use Rattle.cas_history.proofs.Under.{IsUnder, under-cases, under-none}
 use Rattle.cell_port.specs.FilledRows.{AreRows, RowNames, filled_objects, row_object, object_with}
 use Rattle.cell_port.specs.Needed.{bound_in}
 use Rattle.cell_port.specs.Parts.{at_place, places_of}
-use Rattle.cell_port.specs.Plain.{Ties, Tied, claims_on}
+use Rattle.cell_port.specs.Plain.{Ties, Tied, IsPaid, claims_on}
 use Rattle.cell_port.specs.Tables.{PlainRows, as_start}
 use Rattle.cell_port.proofs.PlainTies.{content-long}
 use Rattle.cell_port.proofs.RowsGrow.{RecordsStay, ContentsStay, object-grow}
@@ -95,12 +95,13 @@ somebody = record { who = record { session = 0; index = 0 }; stage = Own }
 abbrev pub from_here : PlainRows → PlainRows
 from_here r = record r { start = as_start r }
 
-pub tied-here : (r : PlainRows) → IsLawfulStart (as_start r) → AreRows r.bound r.blocks r.filled → Tied empty_state (from_here r) [] []
-tied-here r lawful rows = record {
+pub tied-here : (r : PlainRows) → IsLawfulStart (as_start r) → AreRows r.bound r.blocks r.filled → IsPaid r [] → Tied empty_state (from_here r) [] []
+tied-here r lawful rows paid = record {
   ties = record { size_is = refl; counter_is = refl; given_is = refl; bound_is = refl; filled_is = refl; blocks_is = refl };
   lawful = lawful;
   within = lawful.counter_most;
   opens = tt;
+  paid = paid;
   rows = rows;
 }
 

@@ -36,6 +36,7 @@ built-none size least most = record {
   state = refl;
   order = refl;
   rows = tt;
+  paid = omega arith;
 }
 
 pub stores-none : (size : ℕ) (objects : List Object) (actions : List Pair) → 4096 ≤ size → size ≤ 67108864 → AreLawfulContents objects actions → StoresObjects size objects 0 (empty_rows size)

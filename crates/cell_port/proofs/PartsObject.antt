@@ -72,7 +72,7 @@ module _ (r : PlainRows) (size claimed : ℕ) (objects : List Object) (built : I
   bound_events = event_of somebody (Bind Objects (object_digest o) (Some (record { at = r.counter }))) ∷ bind_claims somebody k []
 
   t1 : Tied empty_state (record here { counter = value; bound = row ∷ r.bound }) [] bound_events
-  t1 = tied-bind empty_state here [] [] (tied-here r built.lawful built.rows) somebody Objects (object_digest o) k unbound (omega (arith, fits, many))
+  t1 = tied-bind empty_state here [] [] (tied-here r built.lawful built.rows built.paid) somebody Objects (object_digest o) k unbound (omega (arith, fits, many)) (omega arith)
 
   abbrev opens : List OpenBlock
   opens = (record { place = value; who = somebody.who; words = none_written (length words) }) ∷ []
@@ -129,7 +129,7 @@ module _ (r : PlainRows) (size claimed : ℕ) (objects : List Object) (built : I
 
   -- nothing was at the counter
   no-record : record_at r.bound r.counter ≡ None
-  no-record = (counter-free empty_state here [] [] (tied-here r built.lawful built.rows)).0
+  no-record = (counter-free empty_state here [] [] (tied-here r built.lawful built.rows built.paid)).0
 
   no-cell : cell_of r.filled r.counter ≡ 0
   no-cell = built.lawful.rooted r.counter no-record
@@ -192,4 +192,5 @@ module _ (r : PlainRows) (size claimed : ℕ) (objects : List Object) (built : I
     state = state-is;
     order = order-is;
     rows = t4.rows;
+    paid = omega (arith, t4.paid);
   }

@@ -48,7 +48,7 @@ module _ (up : State) (r : PlainRows) (opened : List OpenBlock) (seen : List Eve
         (subst (λ (es : List Event). Tied up (record r {
           counter = r.counter + (5 + 16 * needed r.bound space digest);
           bound = (record { space = space; digest = digest; place = record { at = r.counter } }) ∷ r.bound;
-        }) opened es) (sym binds.events) (tied-bind up r opened seen t note space digest (needed r.bound space digest) unbound binds.fits))
+        }) opened es) (sym binds.events) (tied-bind up r opened seen t note space digest (needed r.bound space digest) unbound binds.fits (omega arith)))
 
     there : place_of (tables r.start (event_of note (Bind space digest (Some (record { at = r.counter }))) ∷ bind_claims note (needed r.bound space digest) seen)).bound space digest ≡ Some (record { at = r.counter })
     there =

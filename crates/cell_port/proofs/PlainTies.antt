@@ -1,5 +1,5 @@
 -- What a plain port keeps goes with its run, event by event.
-use Rattle.std.proofs.Common.{◌≡◌, ℕ, zero, suc, ◌+◌, ◌*◌, ◌<◌, ◌≤◌, List, [], ◌∷◌, false, inl, inr, Some, None, is_some, IsSome, length, refl, ap, sym, ◌∙◌, subst, arith}
+use Rattle.std.proofs.Common.{◌≡◌, ℕ, zero, suc, ◌+◌, ◌*◌, ◌<◌, ◌≤◌, List, [], ◌∷◌, Bool, true, false, cond, ◌==◌, inl, inr, Some, None, is_some, IsSome, length, slice_set, refl, ap, sym, ◌∙◌, subst, arith, length-set}
 use Rattle.std.specs.declared.option.Option.{Option}
 use Rattle.cas_model.specs.declared.call.Who.{Who}
 use Rattle.cas_model.specs.declared.digest.Digest.{Digest}
@@ -10,13 +10,15 @@ use Rattle.cas_model.specs.declared.place.Space.TheVariants.{Objects, Actions}
 use Rattle.cas_model.specs.declared.tables.Cell.{Cell}
 use Rattle.cas_model.specs.declared.tables.Content.{Content}
 use Rattle.cas_model.specs.declared.tables.Record.{Record}
+use Rattle.cas_model.specs.Claims.{record_words, block_words}
 use Rattle.cas_model.specs.Start.{IsRecord, CellNames}
 use Rattle.cas_model.specs.State.{State}
 use Rattle.cas_model.specs.Tables.{Tables, place_of, record_at, words_at, cell_of}
+use Rattle.cas_model.specs.Trie.{new_subtries, subtries}
 use Rattle.cas_history.specs.declared.event.Act.TheVariants.{Look, Bind, Read, Claim, Room, Fill}
 use Rattle.cas_history.specs.declared.event.Event.{Event}
 use Rattle.cas_history.specs.Lawful.{IsLawfulRun, IsFreeBlock, MayBind, MayFillAt, MayFill, IsObjectRule, IsActionRule}
-use Rattle.cas_history.specs.Run.{tables, claimed_by, bound_by, filled_by}
+use Rattle.cas_history.specs.Run.{tables, claimed_by, bound_by, filled_by, published}
 use Rattle.cas_history.proofs.Blocks.{run-named-fits}
 use Rattle.cas_history.proofs.Placed.{placed-run, lawful-start, between-least, claim-within}
 use Rattle.cas_history.proofs.Sound.{sound-run, content-some}
@@ -28,7 +30,8 @@ use Rattle.cell_port.specs.Calls.{event_of, IsWholeFill, HasFilled, WordIs, fill
 use Rattle.cell_port.specs.PlainView.{plain_view}
 use Rattle.cell_port.specs.View.{open_words, write_word, close_block, IsOpenFor, written_words, earlier}
 use Rattle.cell_port.specs.Tables.{PlainRows}
-use Rattle.cell_port.specs.Plain.{Ties, Tied, OpensBelow, claims_on, bind_claims, rows_filled}
+use Rattle.cell_port.specs.Needed.{needed, bound_in}
+use Rattle.cell_port.specs.Plain.{Ties, Tied, OpensBelow, IsPaid, open_total, claims_on, bind_claims, rows_filled}
 use Rattle.cell_port.proofs.RowsGrow.{rows-bound, rows-object, rows-action}
 use Rattle.cell_port.proofs.PlainOpens.{opens-more, opens-claim, opens-bind, opens-close, opens-write, opens-fill, opens-cell, open-free, open-length, length-written, with_record}
 
@@ -58,6 +61,58 @@ content-long up start seen lawful n ws some is = step used.1.found.space used.1.
 pub length-none : (n : ℕ) → length (none_written n) ≡ n
 length-none zero = refl
 length-none (suc n) = ap suc (length-none n)
+
+-- ---- what the counter pays for
+
+total-write : (os : List OpenBlock) (at i w : ℕ) → open_total (write_word os at i w) ≡ open_total os
+total-write [] at i w = refl
+total-write (o ∷ os) at i w = step (o.place == at) (total-write os at i w) where
+  step : (b : Bool) → open_total (write_word os at i w) ≡ open_total os → open_total (cond b (record o { words = slice_set o.words i (Some w) } ∷ os) (o ∷ write_word os at i w)) ≡ length o.words + open_total os
+  step true again = ap (λ n. n + open_total os) (length-set o.words i (Some w))
+  step false again = ap (λ n. length o.words + n) again
+
+total-close : (os : List OpenBlock) (at : ℕ) → open_total (close_block os at) ≤ open_total os
+total-close [] at = omega arith
+total-close (o ∷ os) at = step (o.place == at) (total-close os at) where
+  step : (b : Bool) → open_total (close_block os at) ≤ open_total os → open_total (cond b os (o ∷ close_block os at)) ≤ length o.words + open_total os
+  step true again = omega arith
+  step false again = omega (arith, again)
+
+-- a block of its length is closed
+total-open : (os : List OpenBlock) (who : Who) (at n : ℕ) → IsOpenFor os who at n → open_total (close_block os at) + n ≤ open_total os
+total-open [] who at n opened = absurd opened
+total-open (o ∷ os) who at n opened = step (o.place == at) opened (λ h. total-open os who at n h) where
+  step : (b : Bool) → cond b ((o.who ≡ who) × (length o.words ≡ n)) (IsOpenFor os who at n) → (IsOpenFor os who at n → open_total (close_block os at) + n ≤ open_total os)
+      → open_total (cond b os (o ∷ close_block os at)) + n ≤ length o.words + open_total os
+  step true here again = omega (arith, here.1)
+  step false rest again = omega (arith, again rest)
+
+words-bound : (bound : List Record) (space : Space) (digest : Digest) (place : Place)
+    → record_words (bound_in Objects ((record { space = space; digest = digest; place = place }) ∷ bound)) + record_words (bound_in Actions ((record { space = space; digest = digest; place = place }) ∷ bound))
+    ≡ record_words (bound_in Objects bound) + record_words (bound_in Actions bound) + (5 + 16 * needed bound space digest)
+unfolding needed
+words-bound bound Objects digest place =
+    more (length (bound_in Objects bound)) (subtries (bound_in Objects bound)) (new_subtries (bound_in Objects bound) digest 62) (record_words (bound_in Actions bound)) where
+      more : (n s k other : ℕ) → 5 * suc n + 16 * (k + s) + other ≡ 5 * n + 16 * s + other + (5 + 16 * k)
+      more n s k other = omega arith
+words-bound bound Actions digest place =
+    more (length (bound_in Actions bound)) (subtries (bound_in Actions bound)) (new_subtries (bound_in Actions bound) digest 62) (record_words (bound_in Objects bound)) where
+      more : (n s k other : ℕ) → other + (5 * suc n + 16 * (k + s)) ≡ other + (5 * n + 16 * s) + (5 + 16 * k)
+      more n s k other = omega arith
+
+words-published : (value : ℕ) (words : List ℕ) (blocks : List Content) → block_words (published value words blocks) ≡ length words + block_words blocks
+words-published value [] blocks = omega arith
+words-published value (w ∷ ws) blocks = refl
+
+-- an open block is published, or closed alone
+paid-filled : (r : PlainRows) (opened : List OpenBlock) (who : Who) (had : ℕ) (cell : Place) (value n : ℕ) (words : List ℕ) → IsOpenFor opened who value n → length words ≡ n → IsPaid r opened
+    → IsPaid (rows_filled had r cell value words) (close_block opened value)
+paid-filled r opened who (suc had) cell value n words opens long paid = omega (arith, paid, total-open opened who value n opens)
+paid-filled r opened who zero cell value n words opens long paid = omega (arith, paid, total-open opened who value n opens, long, words-published value words r.blocks)
+
+paid-placed : (r : PlainRows) (opened : List OpenBlock) (had : ℕ) (cell : Place) (value : ℕ) → IsPaid r opened → IsPaid (rows_filled had r cell value []) opened
+paid-placed r opened (suc had) cell value paid = paid
+paid-placed r opened zero cell value paid = paid
 
 module _ (up : State) (r : PlainRows) (opened : List OpenBlock) (seen : List Event) (t : Tied up r opened seen) where
   abbrev pub now : Tables
@@ -90,10 +145,10 @@ module _ (up : State) (r : PlainRows) (opened : List OpenBlock) (seen : List Eve
   -- ---- events that leave the tables as they are
 
   pub tied-look : (note : Note) (space : Space) (digest : Digest) → Tied up r opened (event_of note (Look space digest) ∷ seen)
-  tied-look note space digest = record { ties = t.ties; lawful = (t.lawful, tt); within = t.within; opens = t.opens; rows = t.rows }
+  tied-look note space digest = record { ties = t.ties; lawful = (t.lawful, tt); within = t.within; opens = t.opens; paid = t.paid; rows = t.rows }
 
   pub tied-read : (note : Note) (cell : Place) → IsSome (record_at now.bound cell.at) → Tied up r opened (event_of note (Read cell) ∷ seen)
-  tied-read note cell there = record { ties = t.ties; lawful = (t.lawful, there); within = t.within; opens = t.opens; rows = t.rows }
+  tied-read note cell there = record { ties = t.ties; lawful = (t.lawful, there); within = t.within; opens = t.opens; paid = t.paid; rows = t.rows }
 
   pub tied-room : (note : Note) (n : ℕ) → 0 < n → r.start.size < r.counter + n → Tied up r opened (event_of note (Room n false) ∷ seen)
   tied-room note n some full = record {
@@ -101,6 +156,7 @@ module _ (up : State) (r : PlainRows) (opened : List OpenBlock) (seen : List Eve
     lawful = (t.lawful, (some, omega (arith, t.ties.size_is, t.ties.counter_is)));
     within = t.within;
     opens = t.opens;
+    paid = t.paid;
     rows = t.rows;
   }
 
@@ -114,6 +170,7 @@ module _ (up : State) (r : PlainRows) (opened : List OpenBlock) (seen : List Eve
         lawful = (t.lawful, subst (λ (o : Option Place). MayBind now note.who o None) (sym found) tt);
         within = t.within;
         opens = subst (λ (s : Tables). OpensBelow s r.counter opened) (sym same) t.opens;
+        paid = t.paid;
         rows = t.rows;
       }
 
@@ -132,6 +189,7 @@ module _ (up : State) (r : PlainRows) (opened : List OpenBlock) (seen : List Eve
     lawful = (t.lawful, (some, omega (arith, t.ties.size_is, t.ties.counter_is)));
     within = fits;
     opens = opens-more (claimed_by now note.who n) opened r.counter (r.counter + n) (omega arith) (opens-claim now note.who n opened r.counter t.opens);
+    paid = omega (arith, t.paid);
     rows = t.rows;
   }
 
@@ -156,16 +214,17 @@ module _ (up : State) (r : PlainRows) (opened : List OpenBlock) (seen : List Eve
           subst (λ k. IsFreeBlock (claimed_by now note.who n) note.who r.counter k) (sym (length-none n)) (claim-free note.who n),
           opens-claim now note.who n opened r.counter t.opens,
         );
+        paid = omega (arith, t.paid, length-none n);
         rows = t.rows;
       }
 
   -- ---- open blocks
 
   pub tied-write : (at i w : ℕ) → Tied up r (write_word opened at i w) seen
-  tied-write at i w = record { ties = t.ties; lawful = t.lawful; within = t.within; opens = opens-write now opened r.counter at i w t.opens; rows = t.rows }
+  tied-write at i w = record { ties = t.ties; lawful = t.lawful; within = t.within; opens = opens-write now opened r.counter at i w t.opens; paid = omega (arith, t.paid, total-write opened at i w); rows = t.rows }
 
   pub tied-close : (at : ℕ) → Tied up r (close_block opened at) seen
-  tied-close at = record { ties = t.ties; lawful = t.lawful; within = t.within; opens = opens-close now opened r.counter at t.opens; rows = t.rows }
+  tied-close at = record { ties = t.ties; lawful = t.lawful; within = t.within; opens = opens-close now opened r.counter at t.opens; paid = omega (arith, t.paid, total-close opened at); rows = t.rows }
 
 -- ---- the claims of a bind
 
@@ -226,8 +285,8 @@ module _ (up : State) (r : PlainRows) (opened : List OpenBlock) (seen : List Eve
   pub bound-now : bound_by claimed space digest (place_of claimed.bound space digest) (Some own) ≡ with_record claimed row
   bound-now = ap (λ (o : Option Place). bound_by claimed space digest o (Some own)) none-bound
 
-  pub tied-bind : Tied up (record r { counter = r.counter + (5 + 16 * k); bound = row ∷ r.bound }) opened (event_of note (Bind space digest (Some own)) ∷ bind_claims note k seen)
-  tied-bind =
+  pub tied-bind : needed r.bound space digest ≤ k → Tied up (record r { counter = r.counter + (5 + 16 * k); bound = row ∷ r.bound }) opened (event_of note (Bind space digest (Some own)) ∷ bind_claims note k seen)
+  tied-bind enough =
       let before = bind-claims-tied up r opened seen note k t fits in
       let opens = opens-bind claimed row opened r.counter (omega arith)
       (opens-claims r.start (event_of note (Claim 5) ∷ seen) note k opened r.counter (opens-claim (tables r.start seen) note.who 5 opened r.counter t.opens)) in
@@ -243,6 +302,7 @@ module _ (up : State) (r : PlainRows) (opened : List OpenBlock) (seen : List Eve
         lawful = (before.lawful, subst (λ (o : Option Place). MayBind claimed note.who o (Some own)) (sym none-bound) free);
         within = fits;
         opens = subst (λ (s : Tables). OpensBelow s (r.counter + (5 + 16 * k)) opened) (sym bound-now) (opens-more _ opened r.counter (r.counter + (5 + 16 * k)) (omega arith) opens);
+        paid = omega (arith, t.paid, words-bound r.bound space digest (record { at = r.counter }), enough);
         rows = rows-bound row r.bound r.blocks r.filled fresh t.rows;
       }
 
@@ -326,6 +386,7 @@ module _ (up : State) (r : PlainRows) (opened : List OpenBlock) (seen : List Eve
         opens = subst (λ (start : Tables). OpensBelow (tables start (event_of note (Fill cell value words) ∷ seen)) rows.counter (close_block opened value)) (sym same.1)
             (subst (λ k. OpensBelow after k (close_block opened value)) (sym same.0)
             (opens-filled s opened r.counter (cell_of s.filled cell.at) cell value words (λ none. content-some words rule.for.content none) t.opens));
+        paid = paid-filled r opened note.who (cell_of r.filled cell.at) cell value n words opens long t.paid;
         rows = rows-object s r t.ties (cell_of r.filled cell.at) cell value words found refl at object free.0.no_content (claim-some value n free.0) (λ none. content-some words rule.for.content none) rule.for t.rows;
       }
 
@@ -345,6 +406,7 @@ module _ (up : State) (r : PlainRows) (opened : List OpenBlock) (seen : List Eve
         within = subst (λ (start : Tables). rows.counter ≤ start.size) (sym same.1) (subst (λ k. k ≤ r.start.size) (sym same.0) t.within);
         opens = subst (λ (start : Tables). OpensBelow (tables start (event_of note (Fill cell value []) ∷ seen)) rows.counter opened) (sym same.1)
             (subst (λ k. OpensBelow after k opened) (sym same.0) (opens-placed s opened r.counter (cell_of s.filled cell.at) cell value t.opens));
+        paid = paid-placed r opened (cell_of r.filled cell.at) cell value t.paid;
         rows = rows-action s r t.ties (cell_of r.filled cell.at) cell value found refl at action (record-some value rule.object.object.found rule.object.object.is) rule.object t.rows;
       }
 

@@ -16,6 +16,7 @@ use Rattle.cas_model.specs.Tables.{Tables, empty_start, place_of}
 use Rattle.cas_model.specs.Claims.{contents_claims, object_claims, action_claims}
 use Rattle.cell_port.specs.FilledRows.{AreRows, filled_objects}
 use Rattle.cell_port.specs.Needed.{needed, bound_in}
+use Rattle.cell_port.specs.Plain.{IsPaid}
 use Rattle.cell_port.specs.Tables.{PlainRows, as_start}
 
 -- the start holds just these contents, which were stored in their order
@@ -68,6 +69,7 @@ pub record IsBuilt (size claimed : ℕ) (objects : List Object) (pairs : List Pa
   pub state : primary (as_start r) ≡ contents_state objects pairs
   pub order : filled_objects r.bound r.blocks r.filled ≡ objects
   pub rows : AreRows r.bound r.blocks r.filled
+  pub paid : IsPaid r []
 
 -- some of the objects are stored, and the others are left
 pub record StoresObjects (size : ℕ) (objects : List Object) (i : ℕ) (r : PlainRows) : Type 0 where

@@ -6,6 +6,8 @@ use Rattle.cas_model.specs.declared.note.Note.{Note}
 use Rattle.cas_model.specs.declared.place.Full.{Full as Refusal}
 use Rattle.cas_model.specs.declared.place.Place.{Place}
 use Rattle.cas_model.specs.declared.place.Space.{Space}
+use Rattle.cas_model.specs.declared.place.Space.TheVariants.{Objects, Actions}
+use Rattle.cas_model.specs.Claims.{record_words, block_words}
 use Rattle.cas_model.specs.State.{State, empty_state}
 use Rattle.cas_model.specs.Tables.{Tables}
 use Rattle.cas_history.specs.declared.event.Act.TheVariants.{Bind, Claim, Room}
@@ -18,7 +20,7 @@ use Rattle.cell_port.specs.declared.block.PortError.TheVariants.{Full, Memory}
 use Rattle.cell_port.specs.declared.shown.Shown.{Shown}
 use Rattle.cell_port.specs.Calls.{event_of}
 use Rattle.cell_port.specs.FilledRows.{AreRows}
-use Rattle.cell_port.specs.Needed.{needed}
+use Rattle.cell_port.specs.Needed.{needed, bound_in}
 use Rattle.cell_port.specs.Shown.{AreBelow, contents_of}
 use Rattle.cell_port.specs.Tables.{PlainRows}
 
@@ -105,6 +107,15 @@ abbrev pub OpensBelow : Tables → ℕ → List OpenBlock → Type 0
 OpensBelow s n [] = Unit {0}
 OpensBelow s n (o ∷ os) = (o.place < n) × IsFreeBlock s o.who o.place (length o.words) × OpensBelow s o.place os
 
+-- the words of the open blocks
+abbrev pub open_total : List OpenBlock → ℕ
+open_total [] = 0
+open_total (o ∷ os) = length o.words + open_total os
+
+-- the counter pays for the header and the roots, for all records with their subtries, for all contents, and for all open blocks
+abbrev pub IsPaid : PlainRows → List OpenBlock → Type 0
+IsPaid r opened = 520 + (record_words (bound_in Objects r.bound) + record_words (bound_in Actions r.bound) + block_words r.blocks) + open_total opened ≤ r.counter
+
 -- the tables of the run are those that the port keeps
 pub record Ties (s : Tables) (r : PlainRows) : Type 0 where
   pub size_is : s.size ≡ r.start.size
@@ -119,6 +130,7 @@ pub record Tied (up : State) (r : PlainRows) (opened : List OpenBlock) (seen : L
   pub lawful : IsLawfulRun up r.start seen
   pub within : r.counter ≤ r.start.size
   pub opens : OpensBelow (tables r.start seen) r.counter opened
+  pub paid : IsPaid r opened
   -- each filled cell names what it may, in the order in which they were filled
   pub rows : AreRows r.bound r.blocks r.filled
 

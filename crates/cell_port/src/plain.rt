@@ -4,7 +4,7 @@ ghost use Rattle.cas_model.specs.Contents.{AreLawfulContents};
 ghost use Rattle.cas_model.specs.Tables.{empty_start};
 ghost use Rattle.cas_model.specs.Tables.{place_of};
 ghost use Rattle.cell_port.specs.Calls.{IsLawful, HasClaimed, ClaimRefused, BoundTo, BindRefused, Ticks, event_of};
-ghost use Rattle.cas_model.specs.Claims.{contents_claims};
+ghost use Rattle.cas_model.specs.Claims.{contents_claims, Fit};
 ghost use Rattle.cell_port.specs.Claims.{Refuses};
 ghost use Rattle.cell_port.specs.FilledRows.{HoldsContents};
 ghost use Rattle.cell_port.specs.Parts.{OpensAt};
@@ -134,9 +134,10 @@ impl<'u, U: Upstream> PlainPort<'u, U> {
     }
 
     /// What the port holds: the objects in the order in which they were filled, so each after those that it refers to,
-    /// and the actions by rising key. They can be stored again in this order.
+    /// and the actions by rising key. They can be stored again in this order, and fit in a region of the port's size.
     pub fn contents(&self) -> Result<Contents, AllocError>
-        ensures { IfOk result (λ contents. HoldsContents (port_tables self.now) contents.objects.items contents.actions.items) }
+        ensures held { IfOk result (λ contents. HoldsContents (port_tables self.now) contents.objects.items contents.actions.items) }
+        ensures fits { IfOk result (λ contents. Fit self.now.start.size 520 (contents_claims contents.objects.items contents.actions.items)) }
     {
         Ok(Contents {
             objects: objects(self.alloc, &self.tables, &self.events, &self.shown)?,

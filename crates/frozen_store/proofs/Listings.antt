@@ -14,6 +14,7 @@ use Rattle.cas_model.specs.declared.digest.Digest.{Digest}
 use Rattle.cas_model.specs.declared.object.Object.{Object}
 use Rattle.cas_model.specs.declared.place.Space.TheVariants.{Objects}
 use Rattle.cas_model.specs.Content.{content_places}
+use Rattle.cas_model.specs.Claims.{Fit, contents_claims}
 use Rattle.cas_model.specs.Contents.{object_digests, pair_keys, objects_map, actions_map, contents_state, AllMembers, AreStorable, ArePuttable, AreLawfulContents}
 use Rattle.cas_model.specs.Object.{object_digest}
 use Rattle.cas_model.specs.Primary.{primary, cell_under}
@@ -23,6 +24,7 @@ use Rattle.cas_model.proofs.Maps.{digest_total, get-put, same-is, same-self, sam
 use Rattle.region_core.specs.Leads.{IsContentOf, digest_there, digests_there, cell_there, content_there, object_there}
 use Rattle.region_core.specs.Stands.{Stands, AreReferences}
 use Rattle.region_core.proofs.Labels.{content_label, digest_is}
+use Rattle.region_core.proofs.Starts.{tables_in-fit}
 use Rattle.region_core.proofs.Tables.{same_option}
 use Rattle.region_core.specs.Found.{heap_of, tables_in}
 use Rattle.frozen_store.specs.Gathers.{IsIn}
@@ -303,3 +305,11 @@ contents_listed seen x objects keys pairs a b y = subst (λ os. AreContentsOf se
   objects_rise = subst (IsStrictlySortedBy nat_cmp) (sym (places_listed seen (inside_of seen x) a.places a.places_are.only)) a.places_are.rising;
   keys_rise = subst (IsStrictlySortedBy digest_cmp) (sym y.keys_are) b.rising;
 }
+
+-- the claims of what is there end at or below the end of the words
+pub listed-short : (seen : FrozenSeen) (objects : List Object) (pairs : List Pair) → IsSeen seen → AreContentsOf seen objects pairs → Fit (length seen.words) 520 (contents_claims objects pairs)
+listed-short seen objects pairs x a = tables_in-fit seen.words seen.tables.size (primary seen.tables) x.stands x.words_are objects pairs a.lawful (a.state ∙ ap primary x.tables)
+
+-- and so they fit in the region
+pub listed-fit : (seen : FrozenSeen) (objects : List Object) (pairs : List Pair) → IsSeen seen → AreContentsOf seen objects pairs → Fit seen.tables.size 520 (contents_claims objects pairs)
+listed-fit seen objects pairs x a = omega (arith, listed-short seen objects pairs x a, x.stands.headed.within)

@@ -8,7 +8,7 @@ ghost use Rattle.cas_model.specs.declared.digest.Digest.{Digest};
 ghost use Rattle.cas_model.specs.declared.place.Space.{Space};
 ghost use Rattle.cas_model.specs.declared.place.Space.TheVariants.{Objects};
 ghost use Rattle.region_core.specs.Builds.{empty_region};
-ghost use Rattle.cas_model.specs.Claims.{contents_claims};
+ghost use Rattle.cas_model.specs.Claims.{contents_claims, Fit};
 ghost use Rattle.region_core.specs.Claims.{Refuses};
 ghost use Rattle.frozen_store.specs.Lists.{AreContentsOf};
 ghost use Rattle.frozen_store.specs.Seen.{HasState, IsBoundAt, IsSeen, place_in};
@@ -131,9 +131,12 @@ impl Frozen {
     }
 
     /// The contents: the objects by rising place of their content, so that each comes after those that it refers to,
-    /// and the actions by rising key. It fails where there is no memory.
+    /// and the actions by rising key. They fit in a region of this size, and in as many words as these. It fails where
+    /// there is no memory.
     pub fn contents(&self, alloc: Global) -> Result<Contents, AllocError>
-        ensures { IfOk result (λ contents. AreContentsOf self.now contents.objects.items contents.actions.items) }
+        ensures held { IfOk result (λ contents. AreContentsOf self.now contents.objects.items contents.actions.items) }
+        ensures fits { IfOk result (λ contents. Fit self.now.tables.size 520 (contents_claims contents.objects.items contents.actions.items)) }
+        ensures short { IfOk result (λ contents. Fit (length self.now.words) 520 (contents_claims contents.objects.items contents.actions.items)) }
     {
         let objects = objects_of(alloc, self.words.as_slice())?;
         let keys = keys_of(alloc, self.words.as_slice())?;

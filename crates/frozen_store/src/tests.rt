@@ -177,6 +177,19 @@ fn a_content_that_is_too_long_is_refused(rt: HostRuntime) -> Result<(), Fail> {
     Ok(())
 }
 
+// The region of this size that holds the same. It is never full.
+fn build_again(alloc: Global, frozen: &Frozen) -> Result<Frozen, AllocError>
+    ensures { IfOk result (λ again. primary again.tables ≡ primary frozen.now.tables) }
+{
+    frozen.seen();
+    let contents = frozen.contents(alloc)?;
+    match Frozen::of_contents(alloc, &contents, frozen.size()) {
+        Ok(again) => Ok(again),
+        Err(BuildError::Memory) => Err(AllocError),
+        Err(BuildError::Full(_)) => unreachable!(),
+    }
+}
+
 // The upstream of a store above.
 fn over<U: Upstream>(up: &U) -> &U
     ensures { U.state result.now ≡ U.state up.now }
@@ -200,11 +213,14 @@ fn a_closed_region_is_an_upstream(rt: HostRuntime) -> Result<(), Fail> {
         over_frozen(&frozen).content_place(&hello),
         Some(Place { at: 525 })
     );
-    // its words make the same region
-    let again = Frozen::of_contents(rt.alloc(), &frozen.contents(rt.alloc())?, 4_096);
-    match again {
-        Ok(twin) => assert_eq!(rt; twin.words(), frozen.words()),
-        Err(_) => assert!(rt; false),
-    }
+    Ok(())
+}
+
+#[test]
+fn a_closed_region_is_built_again(rt: HostRuntime) -> Result<(), Fail> {
+    let contents = node_and_key(rt.alloc(), Digest::of_key(b"k"))?;
+    let frozen = Frozen::of_contents(rt.alloc(), &contents, 4_096).expect(&rt, "it fits");
+    let again = build_again(rt.alloc(), &frozen)?;
+    assert_eq!(rt; again.words(), frozen.words());
     Ok(())
 }

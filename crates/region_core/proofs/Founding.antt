@@ -12,11 +12,11 @@ use Rattle.cas_model.specs.Content.{IsContent, content_places, content_bytes}
 use Rattle.cas_model.specs.Object.{object_digest}
 use Rattle.cas_model.specs.State.{State}
 use Rattle.cas_model.specs.Trie.{IsDigest, path, index_of}
-use Rattle.region_core.specs.Certificate.{digest_in, digests_in, object_in, AllBelow, IsContentIn, AreContents, ObjectIn, ActionIn, IsCertified}
+use Rattle.region_core.specs.Certificate.{digest_in, digests_in, object_in, AllBelow, IsContentIn, AreContents, ObjectIn, ActionIn, Names, IsCertified}
 use Rattle.region_core.specs.Found.{Way, Named, ways_below, all_below, ways_at, content_named, record_named, records_below, blocks_of, blocks_to, blocks_in, block_at, heap_of}
 use Rattle.region_core.specs.Heap.{Block, Free, Table, Record, Content, Claimed, extent, fixed, Shape, Keeps, Tries, Cells, Laid, memory_of}
 use Rattle.region_core.specs.Leads.{NamesTableAt, NamesRecordAt, Leads, IsSlot, IsRecordOf, IsFilledOf, IsContentOf, IsNamed, digest_there, digests_there, cell_there, content_there, object_there, length_told}
-use Rattle.region_core.specs.Stands.{AreWords, Stands, AreReferences, HasObject, HasAction}
+use Rattle.region_core.specs.Stands.{AreWords, IsHeaded, IsLawfulSlot, Stands, AreReferences, HasObject, HasAction}
 use Rattle.region_core.specs.Words.{root, width, word_of, words_of}
 use Rattle.region_core.proofs.Labels.{length-content_words}
 
@@ -81,9 +81,34 @@ there_words words p all =
     let d : from_be_bytes w64 (to_be_bytes w64 (get_or words (p + 3) 0)) ≡ get_or words (p + 3) 0 = from_be_bytes-to_be_bytes_8 (get_or words (p + 3) 0) (all.small (p + 3)) in
     λ i. a i ∷ b i ∷ c i ∷ d i ∷ []
 
+-- all that words which stand for a state keep, but for the state
+pub record IsLawful (words : List ℕ) (size : ℕ) : Type 0 where
+  pub headed : IsHeaded words size
+  pub slots : (s : Space) (above : List ℕ) (j slot : ℕ) → IsSlot words s above j slot → IsLawfulSlot words slot
+  pub levels : (s : Space) (above : List ℕ) (t : ℕ) → Leads words s above t → length above ≤ 62
+  pub paths : (s : Space) (above : List ℕ) (j slot p : ℕ) → IsSlot words s above j slot → NamesRecordAt words slot p → path (digest_there words p).bytes (suc (length above)) ≡ j ∷ above
+  pub contents : (r c : ℕ) → IsContentOf words r c → IsContent (content_there words c) × (520 ≤ c) × (c + length (content_there words c) ≤ length words)
+  pub apart : (p q w : ℕ) (b c : Block) → IsNamed words p b → IsNamed words q c → p ≤ w → w < p + extent b → q ≤ w → w < q + extent c → (p ≡ q) × (b ≡ c)
+  pub references : (r c : ℕ) → IsContentOf words r c → AreReferences words c (content_places (content_there words c))
+  pub named : (r c : ℕ) → IsContentOf words r c → object_digest (object_there words c) ≡ digest_there words r
+  pub values : (r : ℕ) → IsFilledOf words Actions r → IsFilledOf words Objects (cell_there words r)
+
+pub stands_lawful : (words : List ℕ) (size : ℕ) (state : State) → Stands words size state → IsLawful words size
+stands_lawful words size state st = record {
+  headed = st.headed;
+  slots = st.slots;
+  levels = st.levels;
+  paths = st.paths;
+  contents = st.contents;
+  apart = st.apart;
+  references = st.references;
+  named = st.named;
+  values = st.values;
+}
+
 -- ---- the ways that are found are those that lead
 
-module _ (words : List ℕ) (size : ℕ) (state : State) (st : Stands words size state) where
+module _ (words : List ℕ) (size : ℕ) (st : IsLawful words size) where
   -- a slot word that is 2 modulo 4 names a table
   slot_table : (s : Space) (above : List ℕ) (j slot : ℕ) → IsSlot words s above j slot → get_or words slot 0 % 4 ≡ 2 → NamesTableAt words slot (get_or words slot 0 / 4)
   slot_table s above j slot x two = elim (st.slots s above j slot x) [
@@ -330,7 +355,7 @@ there_read words p i h =
 content_some : (ws : List ℕ) → IsContent ws → 0 < length ws
 content_some ws x = omega (arith, ap length x.is, length-content_words (content_places ws) (content_bytes ws))
 
-module _ (words : List ℕ) (size : ℕ) (state : State) (st : Stands words size state) where
+module _ (words : List ℕ) (size : ℕ) (st : IsLawful words size) where
   -- a named block has words, and lies within
   lies : (p : ℕ) (b : Block) → IsNamed words p b → (0 < extent b) × (8 ≤ p) × (p + extent b ≤ length words)
   lies p Free x = absurd x
@@ -353,13 +378,13 @@ module _ (words : List ℕ) (size : ℕ) (state : State) (st : Stands words size
 
   pub named_there : (p : ℕ) (b : Block) → IsNamed words p b → heap_of words p ≡ b
   unfolding heap_of
-  named_there p b x = in_at (blocks_in words) p b (λ c k. one_name p b c x (found_named words size state st (record { place = p; block = c }) k)) (named_found words size state st p b x)
+  named_there p b x = in_at (blocks_in words) p b (λ c k. one_name p b c x (found_named words size st (record { place = p; block = c }) k)) (named_found words size st p b x)
 
   there_named : (p : ℕ) → (heap_of words p ≡ Free) ⊎ IsNamed words p (heap_of words p)
   unfolding heap_of
   there_named p = elim (at_in (blocks_in words) p) [
     | inl free ↦ inl free
-    | inr k ↦ inr (found_named words size state st (record { place = p; block = heap_of words p }) k)
+    | inr k ↦ inr (found_named words size st (record { place = p; block = heap_of words p }) k)
   ]
 
   -- a block of the labelling that is not free is named
@@ -499,7 +524,7 @@ module _ (words : List ℕ) (size : ℕ) (state : State) (st : Stands words size
         };
   }
 
-  found_laid : AreWords words → Laid (heap_of words) (memory_of words) (length words)
+  pub found_laid : AreWords words → Laid (heap_of words) (memory_of words) (length words)
   found_laid all = record { shape = found-shape; keeps = found-keeps all; tries = found-tries; cells = found-cells }
 
   -- ---- the contents
@@ -523,7 +548,7 @@ module _ (words : List ℕ) (size : ℕ) (state : State) (st : Stands words size
       let refs = refs_same c (content_places (content_there words c)) (st.references r c x) in
       λ i. record { refs = refs i; «data» = content_bytes (content_there words c) }
 
-  found_contents : AreContents (heap_of words)
+  pub found_contents : AreContents (heap_of words)
   found_contents p r d ws content owned =
       let x = content_of p r ws content in
       let y = record_of r Objects d p owned in
@@ -576,13 +601,15 @@ module _ (words : List ℕ) (size : ℕ) (state : State) (st : Stands words size
         value_there = sym (ap digest_in (filled_there (cell_there words z.owner) (st.values z.owner filled))) ∙ ap (λ n. digest_in (heap_of words n)) (sym y.2) ∙ z.value_in;
       }
 
-  pub stands_certified : AreWords words → IsCertified (heap_of words) words size state
-  stands_certified all = record {
-    headed = st.headed;
-    laid = found_laid all;
-    contents = found_contents;
-    names = record {
-      objects = λ d o. (λ h. object_to d o ((st.objects d o).0 h), λ h. (st.objects d o).1 (object_from d o h));
-      cache = λ k v. (λ h. action_to k v ((st.cache k v).0 h), λ h. (st.cache k v).1 (action_from k v h));
-    };
-  }
+  pub lawful_certified : AreWords words → (state : State) → Names (heap_of words) state → IsCertified (heap_of words) words size state
+  lawful_certified all state names = record { headed = st.headed; laid = found_laid all; contents = found_contents; names = names }
+
+-- words that stand for a state have a certificate
+pub stands_certified : (words : List ℕ) (size : ℕ) (state : State) → Stands words size state → AreWords words → IsCertified (heap_of words) words size state
+stands_certified words size state st all =
+    let lawful = stands_lawful words size state st in
+    lawful_certified words size lawful all state
+    (record {
+      objects = λ d o. (λ h. object_to words size lawful d o ((st.objects d o).0 h), λ h. (st.objects d o).1 (object_from words size lawful d o h));
+      cache = λ k v. (λ h. action_to words size lawful k v ((st.cache k v).0 h), λ h. (st.cache k v).1 (action_from words size lawful k v h));
+    })

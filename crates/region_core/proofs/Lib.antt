@@ -18,3 +18,4 @@ pub mod Tables
 pub mod Going
 pub mod Founding
 pub mod Starts
+pub mod Counting

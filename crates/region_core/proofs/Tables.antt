@@ -347,7 +347,7 @@ same_option None None f g = refl
 same_option None (Some y) f g = g y refl
 same_option (Some y) b f g = sym (f y refl)
 
-module _ (heap : ℕ → Block) (memory : ℕ → ℕ) (counter : ℕ) (state : State) (laid : Laid heap memory counter) (contents_are : AreContents heap) (names : Names heap state) (t : Tables) (goes : Goes heap t) where
+module _ (heap : ℕ → Block) (memory : ℕ → ℕ) (counter : ℕ) (laid : Laid heap memory counter) (contents_are : AreContents heap) (t : Tables) (goes : Goes heap t) where
   under_place : (s : Space) (d : Digest) (p c : ℕ) → heap p ≡ Record s d.bytes c → primary.cell_under t s d ≡ c
   under_place s d p c h =
       let at : place_of t.bound s d ≡ Some (record { at = p }) = (goes.places s d (record { at = p })).1 (c, h) in
@@ -407,7 +407,14 @@ module _ (heap : ℕ → Block) (memory : ℕ → ℕ) (counter : ℕ) (state : 
       at_cell zero e = absurd (z.filled e)
       at_cell (suc v) e = ap (λ u. Some (digest_at t.bound u)) (sym e)
 
-  pub primary_is : primary.primary t ≡ state
-  primary_is = same-states (primary.primary t) state
+  -- the state that the tables name is that of the labelling
+  pub primary_names : Names heap (primary.primary t)
+  primary_names = record {
+    objects = λ d o. (λ h. object_to d o (primary.cell_under t Objects d) refl (sym (get-object t d) ∙ h), λ z. get-object t d ∙ object_back d o z);
+    cache = λ k w. (λ h. action_to k w (primary.cell_under t Actions k) refl (sym (get-value t k) ∙ h), λ z. get-value t k ∙ action_back k w z);
+  }
+
+  pub primary_is : (state : State) → Names heap state → primary.primary t ≡ state
+  primary_is state names = same-states (primary.primary t) state
       (λ d. get-object t d ∙ same_option (primary.object_under t d) (fin.get state.objects d) (λ o h. (names.objects d o).1 (object_to d o (primary.cell_under t Objects d) refl h)) (λ o h. object_back d o ((names.objects d o).0 h)))
       (λ k. get-value t k ∙ same_option (primary.value_under t k) (fin.get state.cache k) (λ w h. (names.cache k w).1 (action_to k w (primary.cell_under t Actions k) refl h)) (λ w h. action_back k w ((names.cache k w).0 h)))

@@ -5,7 +5,7 @@ use Rattle.frozen_store.specs.Lists.{AreObjects, AreKeys}
 use Rattle.frozen_store.specs.Reads.{IsWhole}
 use Rattle.frozen_store.specs.Seen.{IsSeen, FrozenSeen}
 use Rattle.frozen_store.proofs.Facts.{is_seen}
-use Rattle.frozen_store.proofs.Listings.{ArePairsOf, none_some, whole_of, no_pairs, pairs_more, key_has, contents_listed}
+use Rattle.frozen_store.proofs.Listings.{ArePairsOf, none_some, whole_of, no_pairs, pairs_more, key_has, contents_listed, listed-fit, listed-short}
 use Rattle.frozen_store.proofs.Sorting.{in_at}
 use Rattle.frozen_store.proofs.frozen.Frozen.contents.Goals as goal
 
@@ -45,4 +45,9 @@ returns c =
     let keys : AreKeys c.args.self.now.words c.deref-key-items.result.now = subst (AreKeys c.args.self.now.words) (sym c.deref-key-items.ensures.value) (subst (λ ws. AreKeys ws c.in_ok-keys.keys.items) other c.in_ok-keys.ensures) in
     let all : c.loop-key.key-index ≡ length c.deref-key-items.result.now = omega (arith, c.loop-key-test.false, c.loop-key.auto.key-index-end) in
     let pairs : ArePairsOf (primary c.args.self.now.tables) c.deref-key-items.result.now c.loop-key.actions.items = subst (λ ks. ArePairsOf (primary c.args.self.now.tables) ks c.loop-key.actions.items) (ap (λ n. take n c.deref-key-items.result.now) all ∙ take-length c.deref-key-items.result.now) c.loop-key.invariant in
-    contents_listed c.args.self.now x c.in_ok-objects.objects.items c.deref-key-items.result.now c.loop-key.actions.items (subst (λ ws. AreObjects ws c.in_ok-objects.objects.items) same c.in_ok-objects.ensures) keys pairs
+    let held = contents_listed c.args.self.now x c.in_ok-objects.objects.items c.deref-key-items.result.now c.loop-key.actions.items (subst (λ ws. AreObjects ws c.in_ok-objects.objects.items) same c.in_ok-objects.ensures) keys pairs in
+    record {
+      held = held;
+      fits = listed-fit c.args.self.now c.in_ok-objects.objects.items c.loop-key.actions.items x held;
+      short = listed-short c.args.self.now c.in_ok-objects.objects.items c.loop-key.actions.items x held;
+    }
