@@ -1,6 +1,12 @@
 pub mod Causes
 pub mod Folder
+pub mod FileTable
+pub mod FolderRecord
 pub mod NoFolder
 pub mod Plan
+pub mod MemFolder
 pub mod MemSource
 pub mod MemSink
+pub mod Reading
+pub mod OsDraft
+pub mod OsFolder

@@ -2,7 +2,9 @@
 ghost use Rattle.std.specs.Prelude.{◌≡◌, ◌<◌, ◌-◌, ◌^◌, true, IfOk};
 ghost use Rattle.cas_outside.specs.Folder.{FolderView, MayEnter, Entered, Locked, Listed, MayAsk, HasFile, HasReadFile, Replaced, Removed, Stays};
 
-use crate::{Bytes, Name};
+use crate::{Bytes, Failed, Name};
+use std::alloc::AllocError;
+use std::io::{self, ErrorKind};
 
 /// Why a call of a folder did nothing, or maybe not all.
 #[derive(Clone, Copy, Debug, PartialEq, Eq)]
@@ -11,6 +13,46 @@ pub enum FolderError {
     Failed,
     /// It found no memory, and all is as before.
     Memory,
+}
+
+impl From<AllocError> for FolderError {
+    ghost use Rattle.std.specs.Prelude.{◌≡◌};
+    ghost use Rattle.cas_outside.specs.declared.folder.FolderError.TheVariants.{Memory};
+
+    ghost from_gives = { λ _ e. e ≡ Memory };
+
+    fn from(_: AllocError) -> Self {
+        FolderError::Memory
+    }
+}
+
+impl From<Failed> for FolderError {
+    ghost use Rattle.std.specs.Prelude.{◌≡◌};
+    ghost use Rattle.cas_outside.specs.declared.folder.FolderError.TheVariants as answer;
+
+    ghost from_gives = { λ _ e. e ≡ answer.Failed };
+
+    fn from(_: Failed) -> Self {
+        FolderError::Failed
+    }
+}
+
+// Want of memory is told as such, and every other error is a fault.
+impl From<io::Error> for FolderError {
+    ghost use Rattle.std.specs.Prelude.{◌≡◌, ◌↔◌};
+    ghost use Rattle.std.specs.IoError.{error_kind};
+    ghost use Rattle.std.specs.declared.io.ErrorKind.TheVariants.{OutOfMemory};
+    ghost use Rattle.cas_outside.specs.declared.folder.FolderError.TheVariants.{Memory};
+
+    ghost from_gives = { λ error e. (e ≡ Memory) ↔ (error_kind error ≡ OutOfMemory) };
+
+    fn from(error: io::Error) -> Self {
+        if error.kind() == ErrorKind::OutOfMemory {
+            FolderError::Memory
+        } else {
+            FolderError::Failed
+        }
+    }
 }
 
 /// A folder of files that one process locks at a time. Names that are asked for begin with `v`, have at most 16 bytes,

@@ -2,12 +2,20 @@
 //! each as a trait whose contract tells what it holds and counts its faults, with one in memory and one of the system.
 #![tactic(auto)]
 
+mod file_table;
 mod folder;
+mod folder_record;
+#[cfg(test)]
+mod folder_tests;
 mod gate;
+mod mem_folder;
 mod mem_sink;
 mod mem_source;
 mod names;
 mod no_folder;
+mod os_draft;
+mod os_files;
+mod os_folder;
 mod plan;
 mod sink;
 mod source;
@@ -16,10 +24,12 @@ mod tests;
 
 pub use folder::{Folder, FolderError};
 pub use gate::{Gate, NoGate};
+pub use mem_folder::MemFolder;
 pub use mem_sink::MemSink;
 pub use mem_source::MemSource;
 pub use names::{Bytes, Name};
 pub use no_folder::NoFolder;
+pub use os_folder::OsFolder;
 pub use sink::{Sink, WriteSink};
 pub use source::{ReadSource, Source};
 

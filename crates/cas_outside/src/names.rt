@@ -52,6 +52,13 @@ impl Bytes {
         Ok(Bytes(list.to_vec(alloc)?))
     }
 
+    /// The bytes of a vector, which it keeps.
+    pub(crate) fn of_vec(list: Vec<u8>) -> Bytes
+        ensures { result ≡ list.items }
+    {
+        Bytes(list)
+    }
+
     /// The bytes.
     pub fn list(&self) -> &[u8]
         ensures { result.now ≡ self.now }
