@@ -1,1 +1,5 @@
 pub mod Alone
+pub mod NameLemmas
+pub mod ChainLemmas
+pub mod OpeningLemmas
+pub mod StateLemmas

@@ -1,1 +1,6 @@
 pub mod Answers
+pub mod Names
+pub mod Chain
+pub mod FolderState
+pub mod Opened
+pub mod Saved

@@ -1,8 +1,18 @@
-//! The generations of a store: the object store and the action cache of a primary over its upstream.
+//! The generations of a store: the object store and the action cache of a primary over its upstream, and the folder
+//! that keeps them.
 #![tactic(auto)]
 
+mod chain;
+#[cfg(test)]
+mod folder_tests;
+mod names;
+mod opening;
+mod saving;
 #[cfg(test)]
 mod tests;
 mod unified;
 
+pub use names::{name_of, number_of};
+pub use opening::{OpenError, Opened, open_folder};
+pub use saving::{SaveError, save};
 pub use unified::Unified;
