@@ -14,3 +14,5 @@ pub mod Stood
 pub mod Turned
 pub mod LinesRun
 pub mod Rendered
+pub mod WorkFits
+pub mod Worked

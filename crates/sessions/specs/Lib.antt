@@ -9,3 +9,6 @@ pub mod Limits
 pub mod Turns
 pub mod Standing
 pub mod Rendering
+pub mod Workload
+pub mod Single
+pub mod Summary

@@ -42,8 +42,8 @@ fn push_lines(
     Ok(())
 }
 
-// The replies after those of a line.
-fn after<'a>(line: &Line, replies: &'a [Reply]) -> &'a [Reply]
+/// The replies after those of a line.
+pub fn after<'a>(line: &Line, replies: &'a [Reply]) -> &'a [Reply]
     ensures { result.now ≡ drop (own_count line.now replies.now) replies.now }
 {
     let count = own_count(line, replies);
@@ -54,8 +54,8 @@ fn after<'a>(line: &Line, replies: &'a [Reply]) -> &'a [Reply]
     }
 }
 
-// How many of these replies are the line's.
-fn own_count(line: &Line, replies: &[Reply]) -> usize
+/// How many of these replies are the line's.
+pub fn own_count(line: &Line, replies: &[Reply]) -> usize
     ensures { result ≡ own_count line.now replies.now }
 {
     match line {

@@ -62,7 +62,7 @@ fn push_line(alloc: Global, out: &mut String, line: &Line) -> Result<(), AllocEr
 }
 
 // A script as one text: each session in brackets, each digest by its first four bytes.
-fn shown(alloc: Global, script: &Script) -> Result<String, AllocError> {
+pub fn shown(alloc: Global, script: &Script) -> Result<String, AllocError> {
     let mut out = String::new(alloc);
     for session in script.sessions.list() {
         out.push_str("[ ")?;
