@@ -1,4 +1,5 @@
 // Why a piece was not timed.
+use image_file::ImageError;
 use region_core::BuildError;
 use sessions::ScriptError;
 use std::alloc::{AllocError, AllocFailed};
@@ -17,6 +18,8 @@ pub enum BenchError {
     Full,
     /// The lines are too many for a script.
     Script,
+    /// The bytes are no image.
+    Image,
 }
 
 impl From<io::Error> for BenchError {
@@ -51,6 +54,15 @@ impl From<ScriptError> for BenchError {
         match error {
             ScriptError::Memory => BenchError::Memory,
             ScriptError::Line(_, _) | ScriptError::TooLong => BenchError::Script,
+        }
+    }
+}
+
+impl From<ImageError> for BenchError {
+    fn from(error: ImageError) -> BenchError {
+        match error {
+            ImageError::Memory => BenchError::Memory,
+            _ => BenchError::Image,
         }
     }
 }

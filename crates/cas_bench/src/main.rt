@@ -1,12 +1,15 @@
 //! Times one piece of the store on objects that are made up: prints a check value to standard output, and the
 //! nanoseconds that the piece took to standard error. It is not shipped.
 //!
-//! The words are the piece, and a number: of objects of 100 bytes each for `digest`, `build`, `look` and `contents`, and
-//! of script lines for `parse` and `acts`.
+//! The words are the piece, and a number: of objects of 100 bytes each for `digest`, `build`, `look`, `contents` and
+//! `check`; of script lines for `parse` and `acts`; of records that name one content for `crowd`, of tables for
+//! `overlaps`; and of objects of 16,777,215 bytes each, at most 256, for `read`, `image` and `sum`.
 #![tactic(auto)]
 
 mod acts;
 mod bench_error;
+mod hostile;
+mod images;
 mod piece;
 mod sample;
 

@@ -1,6 +1,9 @@
 // The pieces that are timed.
 use crate::acts::{measure_acts, measure_parse};
 use crate::bench_error::BenchError;
+use crate::images::{
+    measure_check, measure_crowd, measure_image, measure_overlaps, measure_read, measure_sum,
+};
 use crate::sample::{BYTES, bytes_of, contents_of};
 use cas_model::{Digest, Object, Space};
 use frozen_store::Frozen;
@@ -27,6 +30,18 @@ pub enum Piece {
     Parse,
     /// The SHA-256 of the canonical bytes of each of their objects.
     Acts,
+    /// The check of a region's words.
+    Check,
+    /// The check of words in which many records name one content.
+    Crowd,
+    /// The check of words in which many tables overlap.
+    Overlaps,
+    /// The region of an image.
+    Read,
+    /// The image of a region.
+    Image,
+    /// The SHA-256 of an image.
+    Sum,
 }
 
 /// What a piece gave, and how long it took.
@@ -48,11 +63,17 @@ impl Piece {
             "contents" => Some(Piece::Contents),
             "parse" => Some(Piece::Parse),
             "acts" => Some(Piece::Acts),
+            "check" => Some(Piece::Check),
+            "crowd" => Some(Piece::Crowd),
+            "overlaps" => Some(Piece::Overlaps),
+            "read" => Some(Piece::Read),
+            "image" => Some(Piece::Image),
+            "sum" => Some(Piece::Sum),
             _ => None,
         }
     }
 
-    /// Times the piece on so many objects, or lines.
+    /// Times the piece on so many objects, lines, records or tables.
     pub fn measure(
         self,
         clock: &impl Clock,
@@ -66,6 +87,12 @@ impl Piece {
             Piece::Contents => measure_contents(clock, alloc, count),
             Piece::Parse => measure_parse(clock, alloc, count),
             Piece::Acts => measure_acts(clock, alloc, count),
+            Piece::Check => measure_check(clock, alloc, count),
+            Piece::Crowd => measure_crowd(clock, alloc, count),
+            Piece::Overlaps => measure_overlaps(clock, alloc, count),
+            Piece::Read => measure_read(clock, alloc, count),
+            Piece::Image => measure_image(clock, alloc, count),
+            Piece::Sum => measure_sum(clock, alloc, count),
         }
     }
 }

@@ -1,5 +1,5 @@
 // Objects that are made up.
-ghost use Rattle.std.specs.Prelude.{◌≡◌, [], length, IfOk, OnOk};
+ghost use Rattle.std.specs.Prelude.{◌≡◌, ◌≤◌, [], length, IfOk, OnOk};
 ghost use Rattle.std.specs.BTreeSet.{contains};
 ghost use Rattle.cas_bench.specs.Samples.{IsSample};
 ghost use Rattle.cas_model.specs.Contents.{AreLawfulContents};
@@ -9,8 +9,11 @@ use cas_model::{Contents, Data, Digest, Object, Refs};
 use std::alloc::{AllocError, AllocFailed, Global};
 use std::collections::BTreeSet;
 
-/// The bytes of data of each object.
+/// The bytes of data of each small object.
 pub const BYTES: usize = 100;
+
+/// The bytes of data of each large object: as many as an object may have.
+const LARGE: usize = 16_777_215;
 
 /// The data of the object with a number: the number's eight bytes, the low one first, and then the low one again.
 pub fn bytes_of(number: u64) -> [u8; BYTES]
@@ -22,14 +25,15 @@ pub fn bytes_of(number: u64) -> [u8; BYTES]
     bytes
 }
 
-/// Contents with so many objects and no actions. An object whose digest another has is left out.
+/// Contents with so many small objects and no actions. An object whose digest another has is left out.
 pub fn contents_of(alloc: Global, count: u64) -> Result<Contents, AllocError>
     ensures { IfOk result (λ contents. AreLawfulContents contents.objects.items contents.actions.items) }
 {
     let mut known = BTreeSet::new(alloc);
     let mut objects = Vec::new(alloc);
     for number in 0..count {
-        add_object(alloc, &mut known, &mut objects, number)?;
+        let object = object_of(alloc, number)?;
+        add_object(&mut known, &mut objects, object)?;
     }
     Ok(Contents {
         objects,
@@ -37,10 +41,26 @@ pub fn contents_of(alloc: Global, count: u64) -> Result<Contents, AllocError>
     })
 }
 
-// The object with a number.
+/// Contents with so many objects as large as an object may be and no actions. An object whose digest another has is left out.
+pub fn large_contents_of(alloc: Global, count: u64) -> Result<Contents, AllocError>
+    ensures { IfOk result (λ contents. AreLawfulContents contents.objects.items contents.actions.items) }
+{
+    let mut known = BTreeSet::new(alloc);
+    let mut objects = Vec::new(alloc);
+    for number in 0..count {
+        let object = large_object_of(alloc, number)?;
+        add_object(&mut known, &mut objects, object)?;
+    }
+    Ok(Contents {
+        objects,
+        actions: Vec::new(alloc),
+    })
+}
+
+// The small object with a number.
 fn object_of(alloc: Global, number: u64) -> Result<Object, AllocError>
     ensures refs { IfOk result (λ object. object.refs ≡ []) }
-    ensures short { IfOk result (λ object. length object.data ≡ 100) }
+    ensures short { IfOk result (λ object. length object.data ≤ 16777215) }
 {
     Ok(Object {
         refs: Refs::from_vec(Vec::new(alloc)),
@@ -48,17 +68,29 @@ fn object_of(alloc: Global, number: u64) -> Result<Object, AllocError>
     })
 }
 
-// Adds the object with a number, where its digest is new.
+// The large object with a number: its low byte, again and again.
+fn large_object_of(alloc: Global, number: u64) -> Result<Object, AllocError>
+    ensures refs { IfOk result (λ object. object.refs ≡ []) }
+    ensures short { IfOk result (λ object. length object.data ≤ 16777215) }
+{
+    let bytes = vec![in alloc; number.to_le_bytes()[0]; LARGE]?;
+    Ok(Object {
+        refs: Refs::from_vec(Vec::new(alloc)),
+        data: Data::from_vec(bytes),
+    })
+}
+
+// Adds an object, where its digest is new.
 fn add_object(
-    alloc: Global,
     known: &mut BTreeSet<Digest>,
     objects: &mut Vec<Object>,
-    number: u64,
+    object: Object,
 ) -> Result<(), AllocError>
-    requires { IsSample (contains digest_cmp known.old) objects.old.items }
+    requires sample { IsSample (contains digest_cmp known.old) objects.old.items }
+    requires refs { object.refs ≡ [] }
+    requires short { length object.data ≤ 16777215 }
     ensures { OnOk result (IsSample (contains digest_cmp known.new) objects.new.items) }
 {
-    let object = object_of(alloc, number)?;
     let digest = Digest::of(object.refs.list(), object.data.list());
     let added = known.insert(digest)?;
     if added {

@@ -10,9 +10,9 @@ use Rattle.cas_bench.proofs.sample.add_object.Goals as goal
 
 pub returns-in_ok-push : goal.returns-in_ok-push
 returns-in_ok-push c =
-    let o = c.in_ok-object.object in
-    let short = c.in_ok-object.ensures.short in
-    let sample = sample_more o c.in_ok-object.ensures.refs (omega (arith, short)) (contains digest_cmp c.args.known.now) (contains digest_cmp c.insert.new.self) c.args.objects.now.items c.requires in
+    let o = c.args.object in
+    let short = c.requires.short in
+    let sample = sample_more o c.requires.refs (short) (contains digest_cmp c.args.known.now) (contains digest_cmp c.insert.new.self) c.args.objects.now.items c.requires.sample in
     let is = c.of-digest.ensures ∙ (ap (λ rs. digest_of rs c.list-2.result.now) c.list.ensures ∙ ap (digest_of o.refs) c.list-2.ensures) in
     let updates = c.in_ok-added.ensures.updates in
     let on = λ (q : Digest). cond_on (is_at (digest_cmp c.of-digest.result) q) (contains digest_cmp c.args.known.now q) (contains digest_cmp c.insert.new.self q) (updates.0 q) in
