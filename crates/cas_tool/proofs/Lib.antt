@@ -1,5 +1,12 @@
-pub mod RunLemmas
 pub mod StreamLemmas
 pub mod WordLemmas
 pub mod OutputLemmas
-pub mod ScriptLemmas
+pub mod HistoryLemmas
+pub mod ReplyLemmas
+pub mod ClosingLemmas
+pub mod NumberLemmas
+pub mod SplitLemmas
+pub mod RunLemmas
+pub mod FolderLemmas
+pub mod MadeLemmas
+pub mod CompleteLemmas

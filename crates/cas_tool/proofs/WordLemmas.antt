@@ -1,34 +1,123 @@
 -- Words and operands, one after the other.
-use Rattle.std.proofs.Common.{◌≡◌, ℕ, suc, ◌+◌, ◌<◌, ◌≤◌, List, [], ◌∷◌, ◌++◌, Bool, true, false, not, ◌&&◌, Some, Ok, Err, length, take, drop, get_or, refl, ap, sym, subst, ◌∙◌, add-one, arith}
-use Rattle.std.proofs.lemmas.List.{take_more, take_all, drop_all, length-take-le}
+use Rattle.std.proofs.Common.{◌≡◌, ℕ, zero, suc, ◌+◌, ◌-◌, ◌<◌, ◌≤◌, List, [], ◌∷◌, ◌++◌, Bool, true, false, cond, codes, Some, None, Ok, Err, length, take, drop, get_or, refl, ap, sym, subst, ◌∙◌, add-one, arith}
+use Rattle.std.proofs.lemmas.List.{take_more, take_all, length-take-le, length_push}
 use Rattle.std.proofs.lemmas.Option.{slice_get-get_or}
-use Rattle.std.proofs.Math.Seq.{drop-cons}
 use Rattle.std.specs.Prelude.{String, is_ok, is_err, if◌then◌else◌}
+use Rattle.std.specs.declared.option.Option.{Option}
 use Rattle.std.specs.declared.result.Result.{Result}
 use Rattle.std.specs.String.{string_bytes}
 use Rattle.std.specs.declared.alloc.Global.{Global}
 use Rattle.cas_model.specs.declared.digest.Digest.{Digest}
 use Rattle.cas_model.specs.declared.id.IdError.{IdError}
+use Rattle.cas_tool.specs.declared.answer.Answer.{Answer}
+use Rattle.cas_tool.specs.declared.answer.Answer.TheVariants as answer
+use Rattle.cas_tool.specs.declared.answer.UsageKind.TheVariants as usage
+use Rattle.cas_tool.specs.declared.command.Options.{Options}
+use Rattle.cas_tool.specs.declared.command.Request.{Request}
+use Rattle.cas_tool.specs.declared.command.Task.TheVariants as task
 use Rattle.cas_tool.specs.declared.command.Verb.{Verb}
-use Rattle.cas_tool.specs.Words.{AreOperands, IsBadOperand, IsFirstBad, IsOperand, begins_dash, is_key, no_options, takes}
+use Rattle.cas_tool.specs.declared.command.Verb.TheVariants.{MakeBlob, MakeNode, CatNodeData, LsNodeRefs, PutCacheKey, GetCacheResult, Batch, Workload, Validate}
+use Rattle.cas_tool.specs.Run.{OperandsRefused, WordsRefused}
+use Rattle.cas_tool.specs.Splitting.{IsNamed}
+use Rattle.cas_tool.specs.Words.{AreOperands, BeginWith, HaveOptions, IsBadOperand, IsCommand, IsFirstBad, IsNamedBy, IsOperand, NameNone, Names, Reads, is_key, is_word, operands_of, takes, task_of, verb_of}
 
-next : {X : Type 0} (xs : List X) (i : ℕ) (x y : X) → i < length xs → x ≡ get_or xs i y → drop i xs ≡ x ∷ drop (i + 1) xs
-next xs i x y lt is = drop-cons xs i y lt ∙ ap (λ z. z ∷ drop (suc i) xs) (sym is) ∙ ap (λ n. x ∷ drop n xs) (sym (add-one i))
+-- ---- slices of words
 
--- ---- options
+-- the first item, and those after it
+pub first-rest : {X : Type 0} (xs : List X) (x : X) → 1 ≤ length xs → x ≡ get_or xs 0 x → xs ≡ x ∷ take (length xs - 1) (drop 1 xs)
+first-rest [] x some is = absurd (omega arith)
+first-rest {X} (y ∷ ys) x some is = ap (λ (z : X). z ∷ ys) (sym is) ∙ ap (λ (l : List X). x ∷ l) (sym (take_all (suc (length ys) - 1) ys (omega arith)))
 
-pub option-found : (words : List (String Global)) (i : ℕ) (word other : String Global) → i < length words → word ≡ get_or words i other → begins_dash (string_bytes word) ≡ true
-    → no_options (drop i words) ≡ false
-option-found words i word other lt is dash =
-    ap no_options (next words i word other lt is) ∙ ap (λ b. not b && no_options (drop (i + 1) words)) dash
+-- ---- the command
 
-pub option-not : (words : List (String Global)) (i : ℕ) (word other : String Global) → i < length words → word ≡ get_or words i other → begins_dash (string_bytes word) ≡ false
-    → no_options (drop (i + 1) words) ≡ no_options (drop i words)
-option-not words i word other lt is dash =
-    sym (ap no_options (next words i word other lt is) ∙ ap (λ b. not b && no_options (drop (i + 1) words)) dash)
+-- what stands after the command is one
+named-one : (b : Bool) (word : String Global) (words : List (String Global)) (v w : Verb) (r s : List (String Global)) → IsNamedBy b word words v r → IsNamedBy b word words w s → r ≡ s
+named-one true word words v w r s one other = cc (one.first, other.first)
+named-one false word words v w r s one other = one.1 ∙ sym other.1
 
-pub none-left : (words : List (String Global)) (i : ℕ) → length words ≤ i → no_options (drop i words) ≡ true
-none-left words i le = ap no_options (drop_all i words le)
+command-one : (words : List (String Global)) (v w : Verb) (r s : List (String Global)) → IsCommand words v r → IsCommand words w s → r ≡ s
+command-one [] v w r s one other = absurd one
+command-one (word ∷ words) v w r s one other = named-one (is_word word (codes "--workload")) word words v w r s one other
+
+begin-one : (words : List (String Global)) (v w : Verb) (r s : List (String Global)) → BeginWith words v r → BeginWith words w s → r ≡ s
+begin-one [] v w r s one other = absurd one
+begin-one (cas ∷ []) v w r s one other = absurd one
+begin-one (cas ∷ dir ∷ words) v w r s one other = command-one words v w r s one.1 other.1
+
+pub command-word : (words : List (String Global)) (word : String Global) (verb : Verb) → 1 ≤ length words → word ≡ get_or words 0 word → is_word word (codes "--workload") ≡ false
+    → verb_of word ≡ Some verb → IsCommand words verb (take (length words - 1) (drop 1 words))
+command-word words word verb some is other named =
+    let rest : List (String Global) = take (length words - 1) (drop 1 words) in
+    subst (λ (ws : List (String Global)). IsCommand ws verb rest) (sym (first-rest words word some is))
+    (subst (λ (b : Bool). IsNamedBy b word rest verb rest) (sym other) (named, refl))
+
+pub begin-none : (words : List (String Global)) → ((verb : Verb) (rest : List (String Global)) → ¬ BeginWith words verb rest) → NameNone words
+begin-none words none = λ verb operands options names. none verb names.rest names.begin
+
+pub split-none : (words : List (String Global)) (verb : Verb) (rest : List (String Global)) → BeginWith words verb rest → ((options : Options) → ¬ HaveOptions rest options) → NameNone words
+split-none words verb rest begin none = λ other operands options names.
+    let same : names.rest ≡ rest = begin-one words other verb names.rest rest names.begin begin in
+    none options (subst (λ (r : List (String Global)). HaveOptions r options) same names.have)
+
+pub names-of : (words : List (String Global)) (verb : Verb) (rest : List (String Global)) (count : ℕ) (options : Options) → IsNamed words verb rest count options
+    → Names words verb (operands_of rest) options
+names-of words verb rest count options named = record { rest = rest; begin = named.begin; are = refl; have = named.have }
+
+-- a word alone names no workload
+not-workload : (b : Bool) (verb : Verb) (other : Option Verb) (rounds : ℕ) → ¬ (verb ≡ Workload rounds) → ¬ (other ≡ Some (Workload rounds)) → ¬ (cond b (Some verb) other ≡ Some (Workload rounds))
+not-workload true verb other rounds not_it not_other is = not_it (cc is)
+not-workload false verb other rounds not_it not_other is = not_other is
+
+alone : (word : String Global) (rounds : ℕ) → ¬ (verb_of word ≡ Some (Workload rounds))
+alone word rounds =
+    not-workload (is_word word (codes "--make-blob")) MakeBlob _ rounds (λ e. cc e)
+    (not-workload (is_word word (codes "--make-node")) MakeNode _ rounds (λ e. cc e)
+    (not-workload (is_word word (codes "--cat-node-data")) CatNodeData _ rounds (λ e. cc e)
+    (not-workload (is_word word (codes "--ls-node-refs")) LsNodeRefs _ rounds (λ e. cc e)
+    (not-workload (is_word word (codes "--put-cache-key")) PutCacheKey _ rounds (λ e. cc e)
+    (not-workload (is_word word (codes "--get-cache-result")) GetCacheResult _ rounds (λ e. cc e)
+    (not-workload (is_word word (codes "--batch")) Batch _ rounds (λ e. cc e)
+    (not-workload (is_word word (codes "--validate")) Validate None rounds (λ e. cc e) (λ e. cc e))))))))
+
+-- a workload has at most 10,000 rounds
+named-few : (b : Bool) (word : String Global) (words rest : List (String Global)) (rounds : ℕ) → IsNamedBy b word words (Workload rounds) rest → rounds ≤ 10000
+named-few true word words rest rounds named = let same : rounds ≡ named.rounds = cc named.is in let high = named.is_number.high in omega (arith, same, high)
+named-few false word words rest rounds named = absurd (alone word rounds named.0)
+
+begin-few : (words rest : List (String Global)) (rounds : ℕ) → BeginWith words (Workload rounds) rest → rounds ≤ 10000
+begin-few [] rest rounds begin = absurd begin
+begin-few (cas ∷ []) rest rounds begin = absurd begin
+begin-few (cas ∷ dir ∷ []) rest rounds begin = absurd begin.1
+begin-few (cas ∷ dir ∷ word ∷ words) rest rounds begin = named-few (is_word word (codes "--workload")) word words rest rounds begin.1
+
+workload-verb : (verb : Verb) (digests : List Digest) (rounds : ℕ) → task_of verb digests ≡ Some (task.Workload rounds) → verb ≡ Workload rounds
+workload-verb MakeBlob [] rounds is = cc is
+workload-verb MakeBlob (a ∷ more) rounds is = cc is
+workload-verb MakeNode refs rounds is = cc is
+workload-verb CatNodeData [] rounds is = cc is
+workload-verb CatNodeData (a ∷ []) rounds is = cc is
+workload-verb CatNodeData (a ∷ b ∷ more) rounds is = cc is
+workload-verb LsNodeRefs [] rounds is = cc is
+workload-verb LsNodeRefs (a ∷ []) rounds is = cc is
+workload-verb LsNodeRefs (a ∷ b ∷ more) rounds is = cc is
+workload-verb PutCacheKey [] rounds is = cc is
+workload-verb PutCacheKey (a ∷ []) rounds is = cc is
+workload-verb PutCacheKey (a ∷ b ∷ []) rounds is = cc is
+workload-verb PutCacheKey (a ∷ b ∷ c ∷ more) rounds is = cc is
+workload-verb GetCacheResult [] rounds is = cc is
+workload-verb GetCacheResult (a ∷ []) rounds is = cc is
+workload-verb GetCacheResult (a ∷ b ∷ more) rounds is = cc is
+workload-verb Batch [] rounds is = cc is
+workload-verb Batch (a ∷ more) rounds is = cc is
+workload-verb (Workload n) [] rounds is = cc is
+workload-verb (Workload n) (a ∷ more) rounds is = cc is
+workload-verb Validate [] rounds is = cc is
+workload-verb Validate (a ∷ more) rounds is = cc is
+
+pub rounds-few : (words : List (String Global)) (request : Request) (rounds : ℕ) → Reads words request → request.task ≡ task.Workload rounds → rounds ≤ 10000
+rounds-few words request rounds reads is =
+    let verb_is : reads.verb ≡ Workload rounds = workload-verb reads.verb reads.digests rounds (reads.is ∙ ap Some is) in
+    begin-few words reads.have.names.rest rounds (subst (λ (v : Verb). BeginWith words v reads.have.names.rest) verb_is reads.have.names.begin)
 
 -- ---- operands
 
@@ -73,3 +162,92 @@ pub pushed : {U E : Type 0} (result : Result U E) (new old : List Digest) (diges
     → new ≡ (if is_ok result then old ++ digest ∷ [] else old) → new ≡ old ++ digest ∷ []
 pushed (Ok u) new old digest failed value none is = is
 pushed (Err e) new old digest failed value none is = absurd (cc (value, none))
+
+-- ---- operands among options
+
+drop-first : {X : Type 0} (xs : List X) (n : ℕ) (x : X) (rest : List X) → drop n xs ≡ x ∷ rest → n < length xs
+drop-first [] zero x rest is = cc is
+drop-first [] (suc n) x rest is = cc is
+drop-first (y ∷ ys) zero x rest is = omega arith
+drop-first (y ∷ ys) (suc n) x rest is = let below = drop-first ys n x rest is in omega (arith, below)
+
+drop-item : {X : Type 0} (xs : List X) (n : ℕ) (x : X) (rest : List X) → drop n xs ≡ x ∷ rest → x ≡ get_or xs n x
+drop-item [] zero x rest is = refl
+drop-item [] (suc n) x rest is = refl
+drop-item (y ∷ ys) zero x rest is = cc is
+drop-item (y ∷ ys) (suc n) x rest is = drop-item ys n x rest is
+
+drop-next : {X : Type 0} (xs : List X) (n : ℕ) (x : X) (rest : List X) → drop n xs ≡ x ∷ rest → drop (suc n) xs ≡ rest
+drop-next [] zero x rest is = cc is
+drop-next [] (suc n) x rest is = cc is
+drop-next (y ∷ ys) zero x rest is = cc is
+drop-next (y ∷ ys) (suc n) x rest is = drop-next ys n x rest is
+
+drop-none : {X : Type 0} (xs : List X) (n : ℕ) → drop n xs ≡ [] → length xs ≤ n
+drop-none [] n is = omega arith
+drop-none (y ∷ ys) zero is = cc is
+drop-none (y ∷ ys) (suc n) is = let below = drop-none ys n is in omega (arith, below)
+
+-- the first of these operands read as the digests, and these are left
+pub record OperandsSoFar (verb : Verb) (digests : List Digest) (operands left : List (String Global)) : Type 0 where
+  pub are : AreOperands verb 0 digests (take (length digests) operands)
+  pub left_is : drop (length digests) operands ≡ left
+
+pub operands-none : (verb : Verb) (digests : List Digest) (operands : List (String Global)) → digests ≡ [] → OperandsSoFar verb digests operands operands
+operands-none verb digests operands none = subst (λ (ds : List Digest). OperandsSoFar verb ds operands operands) (sym none) (record { are = tt; left_is = refl })
+
+pub operands-next : (verb : Verb) (old new : List Digest) (operands left more : List (String Global)) (word : String Global) (digest : Digest) (index : ℕ) (key : Bool) (text : List ℕ)
+    → left ≡ word ∷ more → index ≡ length old → key ≡ is_key verb index → text ≡ string_bytes word → IsOperand key digest text → new ≡ old ++ digest ∷ []
+    → OperandsSoFar verb old operands left → OperandsSoFar verb new operands more
+operands-next verb old new operands left more word digest index key text first at key_is text_is reads added so =
+    let begins : drop (length old) operands ≡ word ∷ more = so.left_is ∙ first in
+    let longer : length (old ++ digest ∷ []) ≡ length old + 1 = length_push old digest in
+    let are : AreOperands verb 0 (old ++ digest ∷ []) (take (length old + 1) operands) =
+    operands-more verb old operands (length old) digest word word (drop-first operands (length old) word more begins) (drop-item operands (length old) word more begins) so.are
+    key text (key_is ∙ ap (is_key verb) at) text_is reads in
+    subst (λ (ds : List Digest). OperandsSoFar verb ds operands more) (sym added)
+    (record {
+      are = subst (λ n. AreOperands verb 0 (old ++ digest ∷ []) (take n operands)) (sym longer) are;
+      left_is = ap (λ n. drop n operands) (longer ∙ add-one (length old)) ∙ drop-next operands (length old) word more begins;
+    })
+
+pub operands-bad : (verb : Verb) (digests : List Digest) (operands left more : List (String Global)) (word : String Global) (error : IdError) (index told : ℕ) (key : Bool) (text : List ℕ)
+    → left ≡ word ∷ more → index ≡ length digests → told ≡ length digests → key ≡ is_key verb index → text ≡ string_bytes word → IsBadOperand key error text
+    → OperandsSoFar verb digests operands left → IsFirstBad verb operands told error
+operands-bad verb digests operands left more word error index told key text first at told_is key_is text_is refused so =
+    let begins : drop (length digests) operands ≡ word ∷ more = so.left_is ∙ first in
+    subst (λ n. IsFirstBad verb operands n error) (sym told_is)
+    (first-bad verb digests operands (length digests) error word word (drop-first operands (length digests) word more begins) (drop-item operands (length digests) word more begins) so.are
+    key text (key_is ∙ ap (is_key verb) at) text_is refused)
+
+pub operands-done : (verb : Verb) (digests : List Digest) (operands left : List (String Global)) → left ≡ [] → OperandsSoFar verb digests operands left → AreOperands verb 0 digests operands
+operands-done verb digests operands left none so = operands-all verb digests operands (length digests) (drop-none operands (length digests) (so.left_is ∙ none)) so.are
+
+-- ---- words whose operands are refused
+
+pub operands-refused : (words rest : List (String Global)) (verb : Verb) (count : ℕ) (options : Options) (refusal : Answer) → IsNamed words verb rest count options → takes verb count ≡ true
+    → OperandsRefused verb (operands_of rest) refusal → WordsRefused words refusal
+operands-refused words rest verb count options (answer.Usage (usage.BadOperand k error)) named takes_it why =
+    record {
+      verb = verb;
+      operands = operands_of rest;
+      options = options;
+      names = names-of words verb rest count options named;
+      count = ap (takes verb) (sym named.many) ∙ takes_it;
+      first = why;
+    }
+operands-refused words rest verb count options answer.NoMemory named takes_it why = (verb, operands_of rest, options, names-of words verb rest count options named)
+operands-refused words rest verb count options answer.Done named takes_it why = absurd why
+operands-refused words rest verb count options (answer.Missing digest) named takes_it why = absurd why
+operands-refused words rest verb count options (answer.Usage usage.Words) named takes_it why = absurd why
+operands-refused words rest verb count options (answer.Usage (usage.Operands n)) named takes_it why = absurd why
+operands-refused words rest verb count options answer.ReadFault named takes_it why = absurd why
+operands-refused words rest verb count options answer.WriteFault named takes_it why = absurd why
+operands-refused words rest verb count options (answer.Poisoned wanted kept) named takes_it why = absurd why
+operands-refused words rest verb count options (answer.Dangling index digest) named takes_it why = absurd why
+operands-refused words rest verb count options (answer.BadScript line kind) named takes_it why = absurd why
+operands-refused words rest verb count options (answer.TooLarge what number) named takes_it why = absurd why
+operands-refused words rest verb count options answer.FolderFault named takes_it why = absurd why
+operands-refused words rest verb count options (answer.Damaged name error) named takes_it why = absurd why
+operands-refused words rest verb count options (answer.Full full) named takes_it why = absurd why
+operands-refused words rest verb count options answer.Held named takes_it why = absurd why

@@ -1,12 +1,14 @@
 // What a run answers, and the status and the text of each answer.
-ghost use Rattle.std.specs.Prelude.{◌≡◌, ◌++◌, IfOk};
+ghost use Rattle.std.specs.Prelude.{◌≡◌, ◌++◌, IfOk, OnOk};
 ghost use Rattle.std.specs.String.{string_bytes};
-ghost use Rattle.cas_tool.specs.Answer.{answer_line, kind_end, kind_number, line_with, reason_of, status_of};
+ghost use Rattle.cas_tool.specs.Answer.{answer_line, damage_words, damaged_line, digits_after, flaw_number, flaw_words, full_line, kind_end, kind_number, line_with, reason_of, status_of};
 ghost use Rattle.cas_tool.specs.declared.answer.Answer.TheVariants.{BadScript, Poisoned, TooLarge, Usage};
 
 use crate::front::Front;
 use crate::output::push_id;
-use cas_model::{Digest, Id, IdError};
+use cas_model::{Digest, Full, Id, IdError};
+use image_file::ImageError;
+use region_check::{Flaw, FlawKind};
 use sessions::LineKind;
 use std::alloc::{AllocError, Global};
 
@@ -45,12 +47,20 @@ pub enum Answer {
     ReadFault,
     /// The sink failed, after a part of the output.
     WriteFault,
+    /// The folder failed.
+    FolderFault,
+    /// The file of the generation with this number is no image.
+    Damaged { name: u32, error: ImageError },
+    /// A claim of the command's one call was refused.
+    Full(Full),
     /// The key has another value than the one that it was to be given.
     Poisoned { wanted: Digest, kept: Digest },
     /// The reference at this index, counted from 0, is the first that is absent. A put's value has the index 0.
     Dangling { index: u32, digest: Digest },
     /// The line with this number, counted from 1, is the first of the script that has no reading.
     BadScript { line: u32, kind: LineKind },
+    /// Another holds the folder's lock.
+    Held,
     /// Something passes its limit; `number` is the first that is too large.
     TooLarge { what: Large, number: u64 },
     /// There was no memory.
@@ -87,16 +97,21 @@ impl Answer {
             Answer::Usage(_) => 2,
             Answer::ReadFault => 3,
             Answer::WriteFault => 4,
+            Answer::FolderFault => 5,
+            Answer::Damaged { .. } => 6,
+            Answer::Full(_) => 7,
             Answer::Poisoned { .. } => 8,
             Answer::Dangling { .. } => 9,
             Answer::BadScript { .. } => 10,
+            Answer::Held => 11,
             Answer::TooLarge { .. } => 12,
             Answer::NoMemory => 70,
         }
     }
 }
 
-/// The one line that `main` prints to standard error for an answer, with its line end; no byte for `Done`.
+/// The one line that `main` prints to standard error for an answer, with its line end; no byte for `Done`, nor for damage
+/// that is want of memory, which no run answers.
 pub fn answer_text(alloc: Global, answer: &Answer) -> Result<Vec<u8>, AllocError>
     ensures { IfOk result (λ text. text.items ≡ answer_line answer.now) }
 {
@@ -110,6 +125,9 @@ pub fn answer_text(alloc: Global, answer: &Answer) -> Result<Vec<u8>, AllocError
         Answer::Usage(kind) => usage_text(alloc, kind),
         Answer::ReadFault => line_of(alloc, "cannot read the input"),
         Answer::WriteFault => line_of(alloc, "cannot write the output"),
+        Answer::FolderFault => line_of(alloc, "cannot use the folder"),
+        Answer::Damaged { name, error } => damaged_text(alloc, name, error),
+        Answer::Full(full) => full_text(alloc, full),
         Answer::Poisoned { wanted, kept } => poisoned_text(alloc, wanted, kept),
         Answer::Dangling { index, digest } => {
             let mut text = format!(in alloc; "llvm-cas: dangling {index} ")?.into_bytes();
@@ -117,6 +135,7 @@ pub fn answer_text(alloc: Global, answer: &Answer) -> Result<Vec<u8>, AllocError
             Ok(text)
         }
         Answer::BadScript { line, kind } => script_text(alloc, line, kind),
+        Answer::Held => line_of(alloc, "the folder is in use"),
         Answer::TooLarge { what, number } => large_text(alloc, what, number),
         Answer::NoMemory => line_of(alloc, "no memory"),
     }
@@ -205,6 +224,98 @@ fn number_of(kind: LineKind) -> u8
         LineKind::TooManyLines => 8,
         LineKind::TooManyRefs => 9,
     }
+}
+
+// The line for a refused claim.
+fn full_text(alloc: Global, full: Full) -> Result<Vec<u8>, AllocError>
+    ensures { IfOk result (λ text. text.items ≡ full_line full) }
+{
+    let at = full.at;
+    let asked = full.asked;
+    let size = full.size;
+    let line = format!(in alloc; "llvm-cas: full {at} {asked} {size}\n")?;
+    Ok(line.into_bytes())
+}
+
+// The line for a damaged generation.
+fn damaged_text(alloc: Global, name: u32, error: ImageError) -> Result<Vec<u8>, AllocError>
+    ensures { IfOk result (λ text. text.items ≡ damaged_line name error) }
+{
+    if error == ImageError::Memory {
+        return Ok(Vec::new(alloc));
+    }
+    let mut text = format!(in alloc; "llvm-cas: damaged v1.{name}: ")?.into_bytes();
+    let what = damage_text(alloc, error)?;
+    text.extend_from_slice(&what)?;
+    text.push(b'\n')?;
+    Ok(text)
+}
+
+// What is wrong with an image.
+fn damage_text(alloc: Global, error: ImageError) -> Result<Vec<u8>, AllocError>
+    ensures { IfOk result (λ text. text.items ≡ damage_words error) }
+{
+    match error {
+        ImageError::Long => b"too long".to_vec(alloc),
+        ImageError::Short => b"too short".to_vec(alloc),
+        ImageError::Ragged => b"ragged".to_vec(alloc),
+        ImageError::Sum { kept, found } => {
+            let mut text = b"sum".to_vec(alloc)?;
+            push_digits(alloc, &mut text, kept)?;
+            push_digits(alloc, &mut text, found)?;
+            Ok(text)
+        }
+        ImageError::Version(version) => {
+            let text = format!(in alloc; "version {version}")?;
+            Ok(text.into_bytes())
+        }
+        ImageError::Flaw(flaw) => flaw_text(alloc, flaw),
+        ImageError::Memory => Ok(Vec::new(alloc)),
+    }
+}
+
+// A flaw, by its number and place.
+fn flaw_text(alloc: Global, flaw: Flaw) -> Result<Vec<u8>, AllocError>
+    ensures { IfOk result (λ text. text.items ≡ flaw_words flaw.kind flaw.place) }
+{
+    let number = flaw_number(flaw.kind);
+    let place = flaw.place;
+    let mut text = format!(in alloc; "flaw {number} at {place}")?.into_bytes();
+    if let FlawKind::DigestDiffers { kept, found } = flaw.kind {
+        push_digits(alloc, &mut text, kept)?;
+        push_digits(alloc, &mut text, found)?;
+    }
+    Ok(text)
+}
+
+// The number of a flaw's kind, as docs/REGION.md has it.
+fn flaw_number(kind: FlawKind) -> u8
+    ensures { result ≡ flaw_number kind }
+{
+    match kind {
+        FlawKind::Header => 1,
+        FlawKind::Slot => 2,
+        FlawKind::Range => 3,
+        FlawKind::Overlap => 4,
+        FlawKind::Path => 5,
+        FlawKind::Length => 6,
+        FlawKind::Padding => 7,
+        FlawKind::Reference => 8,
+        FlawKind::Order => 9,
+        FlawKind::DigestDiffers { .. } => 10,
+        FlawKind::ActionValue => 11,
+        FlawKind::PastCounter => 12,
+    }
+}
+
+// Adds a space and the digits of a digest.
+fn push_digits(alloc: Global, text: &mut Vec<u8>, digest: Digest) -> Result<(), AllocError>
+    ensures { OnOk result (text.new.items ≡ text.old.items ++ digits_after digest) }
+{
+    let digits = hex::encode(alloc, digest.bytes.as_slice())?;
+    text.push(b' ')?;
+    text.extend_from_slice(digits.as_bytes())?;
+    Ok(())
 }
 
 fn poisoned_text(alloc: Global, wanted: Digest, kept: Digest) -> Result<Vec<u8>, AllocError>

@@ -14,15 +14,45 @@ pub enum Verb {
     PutCacheKey,
     GetCacheResult,
     Batch,
+    /// With the word after it, a number of rounds from 1 to 10,000.
+    Workload(u32),
+    Validate,
 }
 
 /// What the words ask for.
 #[derive(Drop)]
-pub enum Request {
+pub struct Request {
+    pub task: Task,
+    pub options: Options,
+}
+
+/// What is to be done.
+#[derive(Drop)]
+pub enum Task {
     /// One call of the store.
     Once(Command),
     /// The script that the source gives.
     Batch,
+    /// The workload of so many rounds.
+    Workload(u32),
+    /// A check of the folder's images.
+    Validate,
+}
+
+/// What an option sets. The word after the option is its value.
+#[derive(Clone, Copy, Debug, PartialEq, Eq)]
+pub enum Setting {
+    Workers,
+    Size,
+}
+
+/// What the options say. One that does not go with the command has no effect.
+#[derive(Clone, Copy, Debug, PartialEq, Eq)]
+pub struct Options {
+    /// How many workers a batch or workload has, from 1 to 64; 1 by default.
+    pub workers: u32,
+    /// The size of a region that is made, from 4,096 to 67,108,864 words; 4,194,304 by default.
+    pub size: u64,
 }
 
 /// A command that makes one call, with its operands. The words are LLVM's tool's, the operands' texts this project's own.

@@ -2,20 +2,29 @@
 #![tactic(auto)]
 
 mod answer;
-mod call_run;
+#[cfg(test)]
+mod batch_tests;
+mod closing;
 mod command;
 mod front;
 mod input;
+mod opening;
 mod output;
 mod run;
-mod script_run;
+mod running;
+#[cfg(test)]
+mod store_tests;
 mod streams;
 #[cfg(test)]
+mod testing;
+#[cfg(test)]
 mod tests;
+mod validate;
 mod words;
+mod work;
 
 use answer::{Answer, UsageKind, answer_text};
-use cas_outside::{NoFolder, NoGate, ReadSource, WriteSink};
+use cas_outside::{NoGate, OsFolder, ReadSource, WriteSink};
 use run::cas_run;
 use std::env;
 use std::io::{self, ErrorKind, Write};
@@ -48,7 +57,10 @@ fn words_of(rt: &HostRuntime) -> io::Result<Vec<String>> {
 
 // Runs the command of these words on the standard streams.
 fn run_on_streams(rt: &HostRuntime, words: &[String]) -> Answer {
-    let mut folder = NoFolder::new();
+    let Ok(system) = rt.clone() else {
+        return Answer::NoMemory;
+    };
+    let mut folder = OsFolder::new(system);
     let mut source = ReadSource::new(rt.stdin());
     let mut sink = WriteSink::new(rt.stdout());
     cas_run(rt, words, &mut folder, &mut source, &mut sink, &NoGate).answer

@@ -1,52 +1,47 @@
 // The top call.
-ghost use Rattle.std.specs.Prelude.{◌≡◌, IfOk, IfErr, MatchResult};
+ghost use Rattle.std.specs.Prelude.{◌≡◌, ◌≤◌, IfOk, IfErr, OnOk, true};
 ghost use Rattle.cas_outside.specs.Folder.{MayEnter};
+ghost use Rattle.sessions.specs.Limits.{FitsScript};
 ghost use Rattle.cas_tool.specs.Answer.{status_of};
-ghost use Rattle.cas_tool.specs.Run.{Because, CommandMade, CommandRefused, HasInput, InputStops, IsCommandWithin, Makes, Refuses, ScriptMade, ScriptRefused, script_stop_answer, stop_answer, source_with, streams};
+ghost use Rattle.cas_tool.specs.Complete.{IsCompleteRun};
+ghost use Rattle.cas_tool.specs.Made.{IsOneCall};
+ghost use Rattle.cas_tool.specs.Run.{Because, Ends, IsSaved, Prepares, Refuses, RunPrepares, RunRefuses, SavingStops, ValidatePrepares, ValidateRefuses, outside_with, sink_with, world_with};
 
-use crate::answer::{Answer, Large, Outcome};
-use crate::call_run::run_call;
-use crate::command::{Command, Request};
+use crate::answer::{Answer, Outcome};
+use crate::command::{Request, Task};
 use crate::front::Front;
-use crate::input::{Stop, read_all};
-use crate::output::write_all;
-use crate::script_run::run_script;
+use crate::opening::open;
+use crate::output::{Output, write_all};
+use crate::running::{Made, run_work};
+use crate::validate::valid_text;
 use crate::words::read_words;
+use crate::work::{Work, work_of};
 use cas_outside::{Folder, Gate, Sink, Source};
-use sessions::{Script, ScriptError};
-use std::alloc::{AllocGlobal, Global};
+use generations::{Opened, SaveError, save};
+use std::alloc::{AllocError, AllocGlobal, Global};
 
-/// The most bytes that an object's data has.
-const MOST_DATA: usize = 16_777_215;
-
-/// The most bytes that a script has.
-const MOST_SCRIPT: usize = 16_777_216;
-
-/// Runs the command that the words, those after the program's name, say: it reads the source where the command has
-/// data, makes the output, and writes it to the sink. The folder must not have been asked for one yet.
+/// Runs the command that the words, those after the program's name, say: it reads the source where the command reads it,
+/// opens the folder, runs, saves the primary where its state changed, and writes the output to the sink. The folder must
+/// not have been asked for one yet.
 pub fn cas_run<R: AllocGlobal, F: Folder, S: Source, W: Sink, G: Gate>(
     rt: &R,
     words: &[String],
-    _folder: &mut F,
+    folder: &mut F,
     source: &mut S,
     sink: &mut W,
     gate: &G,
 ) -> Outcome
-    requires { MayEnter (F.view _folder.old) }
+    requires { MayEnter (F.view folder.old) }
     ensures status { result.status ≡ status_of result.answer }
     ensures because { Because words.now
-        (streams (S.left source.old) (S.faults source.old) (W.held sink.old) (W.faults sink.old))
-        (streams (S.left source.new) (S.faults source.new) (W.held sink.new) (W.faults sink.new)) result.front result.answer }
-    ensures folder { F.view _folder.new ≡ F.view _folder.old }
+        (world_with (S.left source.old) (S.faults source.old) (F.view folder.old) (W.held sink.old) (W.faults sink.old))
+        (world_with (S.left source.new) (S.faults source.new) (F.view folder.new) (W.held sink.new) (W.faults sink.new)) result.front result.answer }
+    ensures complete { IsCompleteRun words.now
+        (world_with (S.left source.old) (S.faults source.old) (F.view folder.old) (W.held sink.old) (W.faults sink.old))
+        (world_with (S.left source.new) (S.faults source.new) (F.view folder.new) (W.held sink.new) (W.faults sink.new)) result.answer }
 {
-    let (front, made) = make(rt.alloc(), words, source, gate);
-    let answer = match made {
-        Err(answer) => answer,
-        Ok(text) => match write_all(sink, &text) {
-            Ok(()) => Answer::Done,
-            Err(_) => Answer::WriteFault,
-        },
-    };
+    let (front, prepared) = prepare(rt.alloc(), words, folder, source, gate);
+    let answer = finish(sink, prepared);
     Outcome {
         status: answer.status(),
         answer,
@@ -54,101 +49,115 @@ pub fn cas_run<R: AllocGlobal, F: Folder, S: Source, W: Sink, G: Gate>(
     }
 }
 
-// The run that these words say, on what the source gives, and its output.
-fn make<S: Source, G: Gate>(
+// Writes the text that was prepared, where there is one, and answers how the run ended.
+fn finish<W: Sink>(sink: &mut W, prepared: Result<Output, Answer>) -> Answer
+    ensures { Ends prepared (sink_with (W.held sink.old) (W.faults sink.old)) (sink_with (W.held sink.new) (W.faults sink.new)) result }
+{
+    match prepared {
+        Err(answer) | Ok(Output::Denied(answer)) => answer,
+        Ok(Output::Text(text)) => match write_all(sink, &text) {
+            Ok(()) => Answer::Done,
+            Err(_) => Answer::WriteFault,
+        },
+    }
+}
+
+// All but the writing.
+fn prepare<F: Folder, S: Source, G: Gate>(
     alloc: Global,
     words: &[String],
+    folder: &mut F,
     source: &mut S,
     gate: &G,
-) -> (Front, Result<Vec<u8>, Answer>)
-    ensures { MatchResult result.1
-        (λ text. Makes words.now (source_with (S.left source.old) (S.faults source.old)) (source_with (S.left source.new) (S.faults source.new)) result.0 text.items)
-        (λ answer. Refuses words.now (source_with (S.left source.old) (S.faults source.old)) (source_with (S.left source.new) (S.faults source.new)) result.0 answer) }
+) -> (Front, Result<Output, Answer>)
+    requires { MayEnter (F.view folder.old) }
+    ensures ok { IfOk result.1 (λ output. Prepares words.now (outside_with (S.left source.old) (S.faults source.old) (F.view folder.old)) (outside_with (S.left source.new) (S.faults source.new) (F.view folder.new)) result.0 output) }
+    ensures err { IfErr result.1 (λ answer. Refuses words.now (outside_with (S.left source.old) (S.faults source.old) (F.view folder.old)) (outside_with (S.left source.new) (S.faults source.new) (F.view folder.new)) result.0 answer) }
 {
-    match read_words(alloc, words) {
-        Ok(Request::Once(command)) => make_call(alloc, command, source, gate),
-        Ok(Request::Batch) => make_batch(alloc, source, gate),
+    let request = match read_words(alloc, words) {
+        Ok(request) => request,
+        Err(answer) => return (Front::none(), Err(answer)),
+    };
+    let dir = words[1].as_str();
+    let Request { task, options } = request;
+    if let Task::Validate = task {
+        return (Front::none(), validate(alloc, folder, dir, options.size));
+    }
+    match work_of(alloc, task, source) {
+        Ok(work) => run_in_folder(alloc, folder, dir, options.size, work, gate),
         Err(answer) => (Front::none(), Err(answer)),
     }
 }
 
-// The run of a command's one call, and its output.
-fn make_call<S: Source, G: Gate>(
+// Opens the folder and tells what was read.
+fn validate<F: Folder>(
     alloc: Global,
-    command: Command,
-    source: &mut S,
-    gate: &G,
-) -> (Front, Result<Vec<u8>, Answer>)
-    requires { IsCommandWithin command }
-    ensures { MatchResult result.1
-        (λ text. CommandMade command (source_with (S.left source.old) (S.faults source.old)) (source_with (S.left source.new) (S.faults source.new)) result.0 text.items)
-        (λ answer. CommandRefused command (source_with (S.left source.old) (S.faults source.old)) (source_with (S.left source.new) (S.faults source.new)) result.0 answer) }
+    folder: &mut F,
+    dir: &str,
+    size: u64,
+) -> Result<Output, Answer>
+    requires enters { MayEnter (F.view folder.old) }
+    requires least { 4096 ≤ size }
+    requires most { size ≤ 67108864 }
+    ensures ok { IfOk result (λ output. ValidatePrepares dir.now size (F.view folder.old) (F.view folder.new) output) }
+    ensures err { IfErr result (λ answer. ValidateRefuses dir.now size (F.view folder.old) (F.view folder.new) answer) }
 {
-    match read_input(alloc, &command, source) {
-        Ok(data) => run_call(alloc, command.shows(), command.call(data), gate),
-        Err(stop) => (Front::none(), Err(stopped(stop))),
-    }
+    let opened = open(alloc, folder, dir, size)?;
+    Ok(Output::Text(valid_text(alloc, &opened)?))
 }
 
-// The run of the script that the source gives, and its output.
-fn make_batch<S: Source, G: Gate>(
+// Opens the folder, runs the work, and saves.
+fn run_in_folder<F: Folder, G: Gate>(
     alloc: Global,
-    source: &mut S,
+    folder: &mut F,
+    dir: &str,
+    size: u64,
+    work: Work,
     gate: &G,
-) -> (Front, Result<Vec<u8>, Answer>)
-    ensures { MatchResult result.1
-        (λ text. ScriptMade (source_with (S.left source.old) (S.faults source.old)) (source_with (S.left source.new) (S.faults source.new)) result.0 text.items)
-        (λ answer. ScriptRefused (source_with (S.left source.old) (S.faults source.old)) (source_with (S.left source.new) (S.faults source.new)) result.0 answer) }
+) -> (Front, Result<Output, Answer>)
+    requires enters { MayEnter (F.view folder.old) }
+    requires least { 4096 ≤ size }
+    requires most { size ≤ 67108864 }
+    requires fits { FitsScript work.script }
+    requires one { IsOneCall work }
+    ensures ok { IfOk result.1 (λ output. RunPrepares dir.now size work (F.view folder.old) (F.view folder.new) result.0 output) }
+    ensures err { IfErr result.1 (λ answer. RunRefuses dir.now size work (F.view folder.old) (F.view folder.new) result.0 answer) }
 {
-    let text = match read_all(alloc, source, MOST_SCRIPT) {
-        Ok(text) => text,
-        Err(stop) => return (Front::none(), Err(script_stopped(stop))),
+    let Opened {
+        number,
+        primary,
+        ..
+    } = match open(alloc, folder, dir, size) {
+        Ok(opened) => opened,
+        Err(answer) => return (Front::none(), Err(answer)),
     };
-    match Script::parse(alloc, text.as_slice()) {
-        Ok(script) => run_script(alloc, script, gate),
-        Err(ScriptError::Line(line, kind)) => {
-            (Front::none(), Err(Answer::BadScript { line, kind }))
+    match run_work(alloc, primary, work, gate) {
+        (front, Ok(made)) => {
+            let saved = save_made(alloc, folder, number, made);
+            (front, saved)
         }
-        Err(ScriptError::TooLong) => unreachable!(),
-        Err(ScriptError::Memory) => (Front::none(), Err(Answer::NoMemory)),
+        (front, Err(AllocError)) => (front, Err(Answer::NoMemory)),
     }
 }
 
-// The data of a command: all that the source gives where the command makes an object, and else none.
-fn read_input<S: Source>(alloc: Global, command: &Command, source: &mut S) -> Result<Vec<u8>, Stop>
-    ensures ok { IfOk result (λ bytes. HasInput command.now (source_with (S.left source.old) (S.faults source.old)) (source_with (S.left source.new) (S.faults source.new)) bytes.items) }
-    ensures err { IfErr result (λ stop. InputStops command.now (source_with (S.left source.old) (S.faults source.old)) (source_with (S.left source.new) (S.faults source.new)) stop) }
+// Saves the image that is due, where there is one, and answers what the run gives.
+fn save_made<F: Folder>(
+    alloc: Global,
+    folder: &mut F,
+    number: u32,
+    made: Made,
+) -> Result<Output, Answer>
+    requires { (F.view folder.old).locked ≡ true }
+    ensures output { IfOk result (λ output. output ≡ made.output) }
+    ensures saved { OnOk result (IsSaved number made.image (F.view folder.old) (F.view folder.new)) }
+    ensures stops { IfErr result (λ answer. SavingStops number made.image (F.view folder.old) (F.view folder.new) answer) }
 {
-    match command {
-        Command::Make(_) => read_all(alloc, source, MOST_DATA),
-        _ => Ok(Vec::new(alloc)),
+    if let Some(image) = &made.image {
+        match save(alloc, folder, number, image) {
+            Ok(()) => {}
+            Err(SaveError::FolderFault) => return Err(Answer::FolderFault),
+            Err(SaveError::Memory) => return Err(Answer::NoMemory),
+        }
     }
-}
-
-// The answer where the data could not be read.
-fn stopped(stop: Stop) -> Answer
-    ensures { result ≡ stop_answer stop }
-{
-    match stop {
-        Stop::Fault => Answer::ReadFault,
-        Stop::Large => Answer::TooLarge {
-            what: Large::Data,
-            number: MOST_DATA as u64 + 1,
-        },
-        Stop::Memory => Answer::NoMemory,
-    }
-}
-
-// The answer where the script could not be read.
-fn script_stopped(stop: Stop) -> Answer
-    ensures { result ≡ script_stop_answer stop }
-{
-    match stop {
-        Stop::Fault => Answer::ReadFault,
-        Stop::Large => Answer::TooLarge {
-            what: Large::Script,
-            number: MOST_SCRIPT as u64 + 1,
-        },
-        Stop::Memory => Answer::NoMemory,
-    }
+    Ok(made.output)
 }

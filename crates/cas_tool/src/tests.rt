@@ -1,34 +1,22 @@
 // Runs over sources and sinks in memory: the worked answers, with ids that another implementation of SHA-256 computed.
 use crate::answer::{Answer, Large, UsageKind, answer_text};
-use crate::command::Shows;
-use crate::output::output_of;
+use crate::command::{Command, Options, Request, Task};
 use crate::run::cas_run;
-use cas_model::{Call, Data, Digest, Id, IdError, Object, Refs, Reply};
-use cas_outside::{MemSink, MemSource, NoFolder, NoGate};
+use crate::testing::{EMPTY, HELLO, Ran, ZERO, fresh_folder};
+use crate::words::read_words;
+use cas_model::{Digest, Full, Id, IdError};
+use cas_outside::{MemSink, MemSource, NoGate};
+use image_file::ImageError;
+use region_check::{Flaw, FlawKind};
 use sessions::LineKind;
 use std::test::Fail;
-
-const EMPTY: &str = "llvmcas://374708fff7719dd5979ec875d56cd2286f6d3cf7ec317a3b25632aab28ec37bb\n";
-
-const HELLO: &str = "llvmcas://e49773b3ddae167d5fd8e83f8d02fb7525c54e8127a14767c0edbe206315b669\n";
-
-/// The id of 32 zero bytes, which no object has.
-const ZERO: &str = "llvmcas://0000000000000000000000000000000000000000000000000000000000000000";
 
 const ABSENT: Digest = Digest { bytes: [0; 32] };
 
 const LARGEST: &str =
     "llvmcas://9c7b2683eab546699ecf72b99333ff169605686b5de0f6c33e4c2a4521323965\n";
 
-// A run, by its status, its answer and what it wrote.
-#[derive(Drop)]
-struct Ran {
-    status: u8,
-    answer: Answer,
-    sink: MemSink,
-}
-
-// Runs these words on a source of these bytes, with the calls of source and sink that fail.
+// Runs these words in a fresh folder, on a source of these bytes, with the calls of source and sink that fail.
 fn run_words(
     rt: &HostRuntime,
     words: &[&str],
@@ -40,7 +28,7 @@ fn run_words(
     for word in words {
         owned.push(word.to_string(rt.alloc())?)?;
     }
-    let mut folder = NoFolder::new();
+    let mut folder = fresh_folder(rt.alloc());
     let mut source = MemSource::new(bytes, failing_reads.to_vec(rt.alloc())?);
     let mut sink = MemSink::new(rt.alloc(), 2_000, 7, failing_writes.to_vec(rt.alloc())?)?;
     let outcome = cas_run(rt, &owned, &mut folder, &mut source, &mut sink, &NoGate);
@@ -109,7 +97,51 @@ fn faults_have_their_answers(rt: HostRuntime) -> Result<(), Fail> {
 
 #[test]
 fn other_words_are_refused(rt: HostRuntime) -> Result<(), Fail> {
-    let cases: [(&[&str], UsageKind); 14] = [
+    let cases: [(&[&str], UsageKind); 29] = [
+        // An option without its value, and values that are no numbers within bounds.
+        (&["--cas", "c", "--batch", "--workers"], UsageKind::Words),
+        (
+            &["--cas", "c", "--batch", "--workers", "0"],
+            UsageKind::Words,
+        ),
+        (
+            &["--cas", "c", "--batch", "--workers", "65"],
+            UsageKind::Words,
+        ),
+        (
+            &["--cas", "c", "--batch", "--workers", "+4"],
+            UsageKind::Words,
+        ),
+        (
+            &["--cas", "c", "--batch", "--workers", "007"],
+            UsageKind::Words,
+        ),
+        (
+            &["--cas", "c", "--batch", "--size", "4095"],
+            UsageKind::Words,
+        ),
+        (
+            &["--cas", "c", "--batch", "--size", "67108865"],
+            UsageKind::Words,
+        ),
+        // An option that is given twice, two commands, and an option that is none.
+        (
+            &["--cas", "c", "--batch", "--workers", "4", "--workers", "4"],
+            UsageKind::Words,
+        ),
+        (&["--cas", "c", "--make-blob", "--batch"], UsageKind::Words),
+        (&["--cas", "c", "--batch", "--limit", "0"], UsageKind::Words),
+        (&["--cas", "c", "--workload"], UsageKind::Words),
+        (&["--cas", "c", "--workload", "0"], UsageKind::Words),
+        (&["--cas", "c", "--workload", "10001"], UsageKind::Words),
+        (
+            &["--cas", "c", "--workload", "1", ZERO],
+            UsageKind::Operands(1),
+        ),
+        (
+            &["--cas", "c", "--validate", "--size", "4096", ZERO],
+            UsageKind::Operands(1),
+        ),
         (&["--cas", "c", "--batch", "-"], UsageKind::Words),
         (&["--cas", "c", "--batch", ZERO], UsageKind::Operands(1)),
         (&[], UsageKind::Words),
@@ -145,6 +177,87 @@ fn other_words_are_refused(rt: HostRuntime) -> Result<(), Fail> {
     Ok(())
 }
 
+// What these words ask for, if they ask for anything.
+fn read(rt: &HostRuntime, words: &[&str]) -> Result<Option<Request>, Fail> {
+    let mut owned = Vec::new(rt.alloc());
+    for word in words {
+        owned.push(word.to_string(rt.alloc())?)?;
+    }
+    Ok(read_words(rt.alloc(), &owned).ok())
+}
+
+#[test]
+fn options_stand_anywhere_after_the_command(rt: HostRuntime) -> Result<(), Fail> {
+    let given = Options {
+        workers: 64,
+        size: 4_096,
+    };
+    let plain = Options {
+        workers: 1,
+        size: 4_194_304,
+    };
+    let cases: [(&[&str], Options); 4] = [
+        (
+            &[
+                "--cas",
+                "c",
+                "--make-node",
+                "--workers",
+                "64",
+                ZERO,
+                "--size",
+                "4096",
+                ZERO,
+            ],
+            given,
+        ),
+        (
+            &[
+                "--cas",
+                "c",
+                "--workload",
+                "10000",
+                "--size",
+                "4096",
+                "--workers",
+                "64",
+            ],
+            given,
+        ),
+        (&["--cas", "c", "--make-blob"], plain),
+        (&["--cas", "c", "--validate"], plain),
+    ];
+    for (words, options) in cases {
+        match read(&rt, words)? {
+            Some(request) => assert_eq!(rt; request.options, options),
+            None => panic!(rt; "no words at {words:?}"),
+        }
+    }
+    let words = ["--cas", "c", "--make-node", ZERO, "--workers", "2", ZERO];
+    let task = read(&rt, &words)?.map(|request| request.task);
+    match task {
+        Some(Task::Once(Command::Make(refs))) => {
+            assert_eq!(rt; refs.list(), [ABSENT, ABSENT].as_slice());
+        }
+        _ => panic!(rt; "another task"),
+    }
+    Ok(())
+}
+
+#[test]
+fn a_workload_is_summed_up(rt: HostRuntime) -> Result<(), Fail> {
+    let words = ["--cas", "c", "--workload", "1", "--workers", "1"];
+    let ran = run_words(&rt, &words, Vec::new(rt.alloc()), &[1], &[])?;
+    assert_eq!(rt; (ran.status, ran.answer), (0, Answer::Done));
+    let want = "workload 1: sessions 8, lines 40, full 0, objects 7, actions 3\n";
+    assert_eq!(rt; ran.sink.written(), want.as_bytes());
+    let words = ["--cas", "c", "--validate"];
+    let ran = run_words(&rt, &words, Vec::new(rt.alloc()), &[1], &[])?;
+    assert_eq!(rt; (ran.status, ran.answer), (0, Answer::Done));
+    assert_eq!(rt; ran.sink.written().len(), 0);
+    Ok(())
+}
+
 // The words of a node with so many references.
 fn node_words(rt: &HostRuntime, count: usize) -> Result<Vec<String>, Fail> {
     let mut words = Vec::new(rt.alloc());
@@ -159,7 +272,7 @@ fn node_words(rt: &HostRuntime, count: usize) -> Result<Vec<String>, Fail> {
 
 #[test]
 fn an_object_has_at_most_65535_references(rt: HostRuntime) -> Result<(), Fail> {
-    let mut folder = NoFolder::new();
+    let mut folder = fresh_folder(rt.alloc());
     let mut source = MemSource::new(Vec::new(rt.alloc()), Vec::new(rt.alloc()));
     let mut sink = MemSink::new(rt.alloc(), 100, 7, Vec::new(rt.alloc()))?;
     let words = node_words(&rt, 65_536)?;
@@ -214,36 +327,6 @@ fn a_node_without_references_is_a_blob(rt: HostRuntime) -> Result<(), Fail> {
     let hello = run_words(&rt, &words, b"hello".to_vec(rt.alloc())?, &[], &[])?;
     assert_eq!(rt; (hello.status, hello.answer), (0, Answer::Done));
     assert_eq!(rt; hello.sink.written(), HELLO.as_bytes());
-    Ok(())
-}
-
-#[test]
-fn replies_have_their_output(rt: HostRuntime) -> Result<(), Fail> {
-    let hello = Digest::of(&[], b"hello");
-    let object = Object {
-        refs: Refs::of(rt.alloc(), &[hello, hello])?,
-        data: Data::of(rt.alloc(), b"some data")?,
-    };
-    let load = Call::Load(ABSENT);
-    let found = Reply::Found(object);
-    let bytes = output_of(rt.alloc(), Shows::Data, &load, &found);
-    assert_eq!(rt; text_in(&bytes), Some(b"some data".as_slice()));
-    let lines = output_of(rt.alloc(), Shows::References, &load, &found);
-    let wanted = format!(in rt.alloc(); "{HELLO}{HELLO}")?;
-    assert_eq!(rt; text_in(&lines), Some(wanted.as_bytes()));
-    let key = Digest::of_key(b"k");
-    let kept = Reply::Kept(hello);
-    let same = output_of(rt.alloc(), Shows::Data, &Call::Put(key, hello), &kept);
-    let line = format!(in rt.alloc(); "kept {HELLO}")?;
-    assert_eq!(rt; text_in(&same), Some(line.as_bytes()));
-    let poisoned = output_of(rt.alloc(), Shows::Data, &Call::Put(key, ABSENT), &kept);
-    let wanted = Answer::Poisoned {
-        wanted: ABSENT,
-        kept: hello,
-    };
-    assert_eq!(rt; poisoned.err(), Some(wanted));
-    let hit = output_of(rt.alloc(), Shows::Data, &Call::Get(key), &Reply::Hit(hello));
-    assert_eq!(rt; text_in(&hit), Some(HELLO.as_bytes()));
     Ok(())
 }
 
@@ -327,14 +410,6 @@ fn a_script_is_read_or_refused(rt: HostRuntime) -> Result<(), Fail> {
 /// The most bytes that a script has.
 const SCRIPT_BYTES: usize = 16_777_216;
 
-// The output, where there is one.
-fn text_in(made: &Result<Vec<u8>, Answer>) -> Option<&[u8]> {
-    match made {
-        Ok(text) => Some(text.as_slice()),
-        Err(_) => None,
-    }
-}
-
 #[test]
 fn each_answer_has_its_text(rt: HostRuntime) -> Result<(), Fail> {
     let large = Answer::TooLarge {
@@ -403,6 +478,66 @@ fn each_answer_has_its_text(rt: HostRuntime) -> Result<(), Fail> {
         (Answer::WriteFault, "llvm-cas: cannot write the output\n"),
         (large, "llvm-cas: too large: data 16777216\n"),
         (Answer::NoMemory, "llvm-cas: no memory\n"),
+    ];
+    for (answer, text) in cases {
+        assert_eq!(rt;
+            answer_text(rt.alloc(), &answer)?.as_slice(),
+            text.as_bytes()
+        );
+    }
+    Ok(())
+}
+
+#[test]
+fn each_fault_of_the_folder_has_its_text(rt: HostRuntime) -> Result<(), Fail> {
+    let full = Answer::Full(Full {
+        at: 525,
+        asked: 3_572,
+        size: 4_096,
+    });
+    let damaged = |error| Answer::Damaged {
+        name: 4_294_967_295,
+        error,
+    };
+    let flawed = |kind| damaged(ImageError::Flaw(Flaw { place: 522, kind }));
+    let cases = [
+        (Answer::FolderFault, "llvm-cas: cannot use the folder\n"),
+        (Answer::Held, "llvm-cas: the folder is in use\n"),
+        (full, "llvm-cas: full 525 3572 4096\n"),
+        (
+            damaged(ImageError::Long),
+            "llvm-cas: damaged v1.4294967295: too long\n",
+        ),
+        (
+            damaged(ImageError::Short),
+            "llvm-cas: damaged v1.4294967295: too short\n",
+        ),
+        (
+            damaged(ImageError::Ragged),
+            "llvm-cas: damaged v1.4294967295: ragged\n",
+        ),
+        (
+            damaged(ImageError::Version(7)),
+            "llvm-cas: damaged v1.4294967295: version 7\n",
+        ),
+        (
+            damaged(ImageError::Sum {
+                kept: ABSENT,
+                found: ABSENT,
+            }),
+            "llvm-cas: damaged v1.4294967295: sum 0000000000000000000000000000000000000000000000000000000000000000 0000000000000000000000000000000000000000000000000000000000000000\n",
+        ),
+        (
+            flawed(FlawKind::Overlap),
+            "llvm-cas: damaged v1.4294967295: flaw 4 at 522\n",
+        ),
+        (
+            flawed(FlawKind::DigestDiffers {
+                kept: ABSENT,
+                found: ABSENT,
+            }),
+            "llvm-cas: damaged v1.4294967295: flaw 10 at 522 0000000000000000000000000000000000000000000000000000000000000000 0000000000000000000000000000000000000000000000000000000000000000\n",
+        ),
     ];
     for (answer, text) in cases {
         assert_eq!(rt;

@@ -1,11 +1,15 @@
 // The words of a command, read by hand.
-ghost use Rattle.std.specs.Prelude.{◌≡◌, length, IfOk, not, IfErr, MatchOption, MatchResult, Some, true};
+ghost use Rattle.std.specs.Prelude.{◌≡◌, ◌+◌, ◌<◌, ◌^◌, ℕ, List, String, length, IfOk, IfErr, MatchOption, MatchResult, IfSome, IfNone, Some, None, [], ◌∷◌, true};
 ghost use Rattle.std.specs.String.{string_bytes};
-ghost use Rattle.cas_tool.specs.Words.{verb_of, begins_dash, no_options, takes, is_key, Names, NameNone, IsOperand, IsBadOperand, AreOperands, IsFirstBad, request_of, Reads};
+ghost use Rattle.std.specs.declared.alloc.Global.{Global};
+ghost use Rattle.cas_tool.specs.declared.command.Options.{Options};
+ghost use Rattle.cas_tool.specs.declared.command.Verb.{Verb};
+ghost use Rattle.cas_tool.specs.Words.{verb_of, begins_dash, setting_of, operands_of, takes, is_key, IsNumberWithin, BeginWith, IsCommand, IsWorkload, HaveOptions, NameNone, IsOperand, IsBadOperand, AreOperands, task_of, Reads};
+ghost use Rattle.cas_tool.specs.Splitting.{IsNamed, leads};
 ghost use Rattle.cas_tool.specs.Run.{OperandsRefused, WordsRefused};
 
 use crate::answer::{Answer, Large, UsageKind};
-use crate::command::{Command, Request, Verb};
+use crate::command::{Command, Options, Request, Setting, Task, Verb};
 use cas_model::{Digest, Id, IdError, Refs};
 use std::alloc::{AllocError, Global};
 
@@ -16,52 +20,180 @@ const MOST_REFS: usize = 65_535;
 pub fn read_words(alloc: Global, words: &[String]) -> Result<Request, Answer>
     ensures { MatchResult result (λ request. Reads words.now request) (λ answer. WordsRefused words.now answer) }
 {
-    let Some((verb, operands)) = named(words) else {
+    let Some(parts) = named(words) else {
         return Err(Answer::Usage(UsageKind::Words));
     };
-    if !verb.takes(operands.len()) {
-        return Err(Answer::Usage(UsageKind::Operands(operands.len() as u64)));
+    if !parts.verb.takes(parts.count) {
+        return Err(Answer::Usage(UsageKind::Operands(parts.count as u64)));
     }
-    let digests = read_operands(alloc, verb, operands)?;
+    let digests = read_operands(alloc, parts.verb, parts.rest)?;
     if digests.len() > MOST_REFS {
         return Err(Answer::TooLarge {
             what: Large::References,
             number: digests.len() as u64,
         });
     }
-    Ok(verb.request(digests))
+    Ok(Request {
+        task: parts.verb.task(digests),
+        options: parts.options,
+    })
 }
 
-// The command that the words name, and its operands: the words are `--cas`, any word, the command's and no option.
-fn named(words: &[String]) -> Option<(Verb, &[String])>
-    ensures { MatchOption result (NameNone words.now) (λ pair. Names words.now pair.0 pair.1.now) }
+// ---- the command, its options and how many operands it has
+
+/// What words name: a command, the words after it, how many of these are operands, and the options.
+#[derive(Drop)]
+struct Parts<'a> {
+    verb: Verb,
+    rest: &'a [String],
+    count: usize,
+    options: Options,
+}
+
+// What the words name: they are `--cas`, any word, the command's, and then operands and options.
+fn named(words: &[String]) -> Option<Parts<'_>>
+    ensures { MatchOption result (NameNone words.now) (λ parts. IsNamed words.now parts.verb parts.rest.now parts.count parts.options) }
+{
+    let (verb, rest) = begin(words)?;
+    let (count, options) = split(rest)?;
+    Some(Parts {
+        verb,
+        rest,
+        count,
+        options,
+    })
+}
+
+// The command that the words begin with, and the words after it.
+fn begin(words: &[String]) -> Option<(Verb, &[String])>
+    ensures { MatchOption result ((verb : Verb) (rest : List (String Global)) → ¬ BeginWith words.now verb rest) (λ pair. BeginWith words.now pair.0 pair.1.now) }
 {
     match words {
-        [cas, _, word, operands @ ..] if cas.as_bytes() == b"--cas".as_slice() => {
-            let verb = Verb::of_word(word)?;
-            if has_option(operands) {
-                return None;
-            }
-            Some((verb, operands))
-        }
+        [cas, _, rest @ ..] if cas.as_bytes() == b"--cas".as_slice() => command(rest),
         _ => None,
     }
 }
 
-// Whether one of the words begins with `-`.
-fn has_option(words: &[String]) -> bool
-    ensures { result ≡ not (no_options words.now) }
+// The command that these words begin with, and the words after it.
+fn command(words: &[String]) -> Option<(Verb, &[String])>
+    ensures { MatchOption result ((verb : Verb) (rest : List (String Global)) → ¬ IsCommand words.now verb rest) (λ pair. IsCommand words.now pair.0 pair.1.now) }
 {
-    for word in words {
-        if is_option(word) {
-            return true;
+    let [word, rest @ ..] = words else {
+        return None;
+    };
+    if word.as_bytes() == b"--workload".as_slice() {
+        return workload(rest);
+    }
+    Some((Verb::of_word(word)?, rest))
+}
+
+// The workload whose rounds the first of these words says, and the words after it.
+fn workload(words: &[String]) -> Option<(Verb, &[String])>
+    ensures { MatchOption result ((verb : Verb) (rest : List (String Global)) → ¬ IsWorkload words.now verb rest) (λ pair. IsWorkload words.now pair.0 pair.1.now) }
+{
+    let [value, rest @ ..] = words else {
+        return None;
+    };
+    let rounds = number_within(value, 1, 10_000)?;
+    Some((Verb::Workload(rounds as u32), rest))
+}
+
+impl Setting {
+    // What the option that a word names sets.
+    fn of_word(word: &String) -> Option<Setting>
+        ensures { result ≡ setting_of word.now }
+    {
+        let text = word.as_bytes();
+        if text == b"--workers".as_slice() {
+            Some(Setting::Workers)
+        } else if text == b"--size".as_slice() {
+            Some(Setting::Size)
+        } else {
+            None
         }
     }
-    false
+}
+
+// How many operands there are among the words after the command, and its options.
+fn split(words: &[String]) -> Option<(usize, Options)>
+    ensures none { IfNone result ((options : Options) → ¬ HaveOptions words.now options) }
+    ensures some { IfSome result (λ pair. HaveOptions words.now pair.1) }
+    ensures count { IfSome result (λ pair. pair.0 ≡ length (operands_of words.now)) }
+{
+    let mut count = 0;
+    let mut workers = None;
+    let mut size = None;
+    let mut rest = words;
+    while let [word, more @ ..] = rest {
+        match Setting::of_word(word) {
+            Some(setting) => {
+                let [value, after @ ..] = more else {
+                    return None;
+                };
+                match setting {
+                    Setting::Workers => workers = Some(once(workers, value, 1, 64)?),
+                    Setting::Size => size = Some(once(size, value, 4_096, 67_108_864)?),
+                }
+                rest = after;
+            }
+            None => {
+                if begins_dash(word) {
+                    return None;
+                }
+                count += 1;
+                rest = more;
+            }
+        }
+    }
+    let options = Options {
+        workers: workers.unwrap_or(1) as u32,
+        size: size.unwrap_or(4_194_304),
+    };
+    Some((count, options))
+}
+
+// The number that the value of an option is, where the option was not given before.
+fn once(before: Option<u64>, value: &String, least: u64, most: u64) -> Option<u64>
+    requires { most < 2 ^ 32 }
+    ensures { MatchOption result (before ≡ None → (number : ℕ) → ¬ IsNumberWithin least most (string_bytes value.now) number)
+        (λ number. (before ≡ None) × IsNumberWithin least most (string_bytes value.now) number) }
+{
+    match before {
+        Some(_) => None,
+        None => number_within(value, least, most),
+    }
+}
+
+// The number that a word is, in decimal digits without a sign or a leading zero, if it lies between these.
+fn number_within(word: &String, least: u64, most: u64) -> Option<u64>
+    requires { most < 2 ^ 32 }
+    ensures { MatchOption result ((number : ℕ) → ¬ IsNumberWithin least most (string_bytes word.now) number) (IsNumberWithin least most (string_bytes word.now)) }
+{
+    if !leads(word.as_bytes()) {
+        return None;
+    }
+    let Ok(number) = word.as_str().parse::<u64>() else {
+        return None;
+    };
+    if number < least || most < number {
+        return None;
+    }
+    Some(number)
+}
+
+// Whether a number's digits may begin as these bytes do: with another digit than 0, or they are one digit.
+fn leads(text: &[u8]) -> bool
+    ensures { result ≡ leads text.now }
+{
+    match text {
+        [] => false,
+        [digit] => digit.is_ascii_digit(),
+        [first, ..] => b'1' <= *first && *first <= b'9',
+    }
 }
 
 // Whether the word begins with `-`.
-fn is_option(word: &String) -> bool
+fn begins_dash(word: &String) -> bool
     ensures { result ≡ begins_dash (string_bytes word.now) }
 {
     matches!(word.as_bytes(), [b'-', ..])
@@ -87,6 +219,8 @@ impl Verb {
             Some(Verb::GetCacheResult)
         } else if text == b"--batch".as_slice() {
             Some(Verb::Batch)
+        } else if text == b"--validate".as_slice() {
+            Some(Verb::Validate)
         } else {
             None
         }
@@ -97,7 +231,7 @@ impl Verb {
         ensures { result ≡ takes self count }
     {
         match self {
-            Verb::MakeBlob | Verb::Batch => count == 0,
+            Verb::MakeBlob | Verb::Batch | Verb::Workload(_) | Verb::Validate => count == 0,
             Verb::MakeNode => true,
             Verb::CatNodeData | Verb::LsNodeRefs | Verb::GetCacheResult => count == 1,
             Verb::PutCacheKey => count == 2,
@@ -114,10 +248,10 @@ impl Verb {
         }
     }
 
-    // The request with these operands.
-    fn request(self, digests: Vec<Digest>) -> Request
+    // What is to be done with these operands.
+    fn task(self, digests: Vec<Digest>) -> Task
         requires { takes self (length digests.items) ≡ true }
-        ensures { request_of self digests.items ≡ Some result }
+        ensures { task_of self digests.items ≡ Some result }
     {
         let command = match (self, digests.as_slice()) {
             (Verb::CatNodeData, [digest]) => Command::CatNodeData(*digest),
@@ -128,32 +262,58 @@ impl Verb {
             },
             (Verb::GetCacheResult, [key]) => Command::GetCacheResult(*key),
             (Verb::MakeBlob | Verb::MakeNode, _) => Command::Make(Refs::from_vec(digests)),
-            (Verb::Batch, _) => return Request::Batch,
+            (Verb::Batch, _) => return Task::Batch,
+            (Verb::Workload(rounds), _) => return Task::Workload(rounds),
+            (Verb::Validate, _) => return Task::Validate,
             _ => unreachable!(),
         };
-        Request::Once(command)
+        Task::Once(command)
     }
 }
 
-// The digests of a command's operands.
-fn read_operands(alloc: Global, verb: Verb, operands: &[String]) -> Result<Vec<Digest>, Answer>
-    ensures ok { IfOk result (λ digests. AreOperands verb 0 digests.items operands.now) }
-    ensures err { IfErr result (λ answer. OperandsRefused verb operands.now answer) }
+// ---- the operands
+
+// The digests of a command's operands, which stand among these words.
+fn read_operands(alloc: Global, verb: Verb, words: &[String]) -> Result<Vec<Digest>, Answer>
+    ensures ok { IfOk result (λ digests. AreOperands verb 0 digests.items (operands_of words.now)) }
+    ensures err { IfErr result (λ answer. OperandsRefused verb (operands_of words.now) answer) }
 {
     let mut digests = Vec::new(alloc);
-    for (index, operand) in operands.iter().enumerate() {
-        match read_operand(verb.is_key(index), operand.as_bytes()) {
+    let mut rest = words;
+    while let Some((operand, more)) = first_operand(rest) {
+        match read_operand(verb.is_key(digests.len()), operand.as_bytes()) {
             Ok(digest) => {
                 if digests.push(digest).is_err() {
                     return Err(Answer::NoMemory);
                 }
             }
             Err(error) => {
-                return Err(Answer::Usage(UsageKind::BadOperand(index as u64, error)));
+                let index = digests.len() as u64;
+                return Err(Answer::Usage(UsageKind::BadOperand(index, error)));
             }
         }
+        rest = more;
     }
     Ok(digests)
+}
+
+// The first operand among these words, and the words after it.
+fn first_operand(words: &[String]) -> Option<(&String, &[String])>
+    ensures none { IfNone result (operands_of words.now ≡ []) }
+    ensures some { IfSome result (λ pair. operands_of words.now ≡ pair.0.now ∷ operands_of pair.1.now) }
+    ensures fewer { IfSome result (λ pair. length pair.1.now < length words.now) }
+{
+    let mut rest = words;
+    while let [word, more @ ..] = rest {
+        if Setting::of_word(word).is_none() {
+            return Some((word, more));
+        }
+        match more {
+            [_, after @ ..] => rest = after,
+            [] => return None,
+        }
+    }
+    None
 }
 
 // The digest of a key or of an id.

@@ -1,7 +1,11 @@
--- the operands so far were read
-use Rattle.std.proofs.Common.{take}
-use Rattle.cas_tool.specs.Words.{AreOperands}
+-- the operands so far were read, and the rest has the others
+use Rattle.std.proofs.Common.{length}
+use Rattle.cas_tool.specs.Words.{operands_of}
+use Rattle.cas_tool.proofs.WordLemmas.{OperandsSoFar}
 use Rattle.cas_tool.proofs.words.read_operands.Given as goal
 
-abbrev pub invariant-loop-index : goal.invariant-loop-index
-invariant-loop-index l = AreOperands l.verb 0 l.digests.items (take l.index l.operands)
+abbrev pub invariant-loop-operand : goal.invariant-loop-operand
+invariant-loop-operand l = OperandsSoFar l.verb l.digests.items (operands_of l.words) (operands_of l.rest)
+
+abbrev pub decreases-loop-operand : goal.decreases-loop-operand
+decreases-loop-operand l = length l.rest

@@ -1,0 +1,224 @@
+-- Where nothing fails, a run has one of few answers.
+use Rattle.std.proofs.Common.{◌≡◌, ℕ, ◌≤◌, ◌⊎◌, inl, inr, List, Some, None, Err, refl, ap, sym, subst, ◌∙◌, arith}
+use Rattle.std.specs.Prelude.{String}
+use Rattle.std.specs.declared.alloc.Global.{Global}
+use Rattle.std.specs.declared.option.Option.{Option}
+use Rattle.std.specs.declared.vec.Vec.{Vec}
+use Rattle.std.specs.FinMap as fin
+use Rattle.cas_outside.specs.Causes.{Rose}
+use Rattle.cas_outside.specs.Folder.{Files, FolderView}
+use Rattle.generations.specs.declared.saving.SaveError.{SaveError}
+use Rattle.generations.specs.declared.saving.SaveError.TheVariants as save
+use Rattle.generations.specs.Names.{generation_name}
+use Rattle.generations.specs.Opened.{IsRefused}
+use Rattle.generations.specs.Saved.{SavesTo}
+use Rattle.image_file.specs.declared.error.ImageError.{ImageError}
+use Rattle.image_file.specs.Image.{RefusesImage, image_bytes}
+use Rattle.image_file.proofs.ImageLemmas.{lawful-read}
+use Rattle.sessions.specs.declared.replies.Replies.{Replies}
+use Rattle.sessions.specs.declared.script.Script.{Script}
+use Rattle.cas_tool.specs.declared.answer.Answer.{Answer}
+use Rattle.cas_tool.specs.declared.answer.Answer.TheVariants.{Done, Missing, Usage, ReadFault, WriteFault, FolderFault, Damaged, Full, Poisoned, Dangling, BadScript, Held, TooLarge, NoMemory}
+use Rattle.cas_tool.specs.declared.answer.Large.TheVariants.{Data, References, Script as ScriptBytes}
+use Rattle.cas_tool.specs.declared.command.Request.{Request}
+use Rattle.cas_tool.specs.declared.command.Task.{Task}
+use Rattle.cas_tool.specs.declared.command.Task.TheVariants.{Once, Batch, Workload, Validate}
+use Rattle.cas_tool.specs.declared.front.Front.{Front}
+use Rattle.cas_tool.specs.declared.output.Output.{Output}
+use Rattle.cas_tool.specs.declared.output.Output.TheVariants.{Denied}
+use Rattle.cas_tool.specs.declared.work.Report.{Report}
+use Rattle.cas_tool.specs.declared.work.Report.TheVariants as report
+use Rattle.cas_tool.specs.declared.work.Work.{Work}
+use Rattle.cas_tool.specs.Complete.{AnswersTask, IsQuiet, IsCompleteRun, IsReadable, MayAnswer}
+use Rattle.cas_tool.specs.Front.{closed_of}
+use Rattle.cas_tool.specs.Opening.{OpenCause, OpeningStops}
+use Rattle.cas_tool.specs.Output.{Reports}
+use Rattle.cas_tool.specs.Run.{Because, Outside, Prepares, Refuses, SavingStops, World, WordsRefused, save_answer}
+use Rattle.cas_tool.specs.Work.{IsWork, Source, TaskStops}
+use Rattle.cas_tool.proofs.FolderLemmas.{rose-since}
+use Rattle.cas_tool.proofs.RunLemmas.{IsOfReply, prepares-denied}
+
+-- ---- what a task may answer
+
+done-may : (task : Task) → MayAnswer task Done
+done-may (Once command) = tt
+done-may Batch = tt
+done-may (Workload rounds) = tt
+done-may Validate = tt
+
+memory-may : (task : Task) → MayAnswer task NoMemory
+memory-may (Once command) = tt
+memory-may Batch = tt
+memory-may (Workload rounds) = tt
+memory-may Validate = tt
+
+given-memory : (task : Task) (given : Answer) → given ≡ NoMemory → MayAnswer task given
+given-memory task given is = subst (MayAnswer task) (sym is) (memory-may task)
+
+-- why a task's work was not made ready
+stops-may : (task : Task) (before after : Source) (given : Answer) → (Rose before.faults after.faults → ⊥) → TaskStops task before after given → MayAnswer task given
+stops-may (Once command) before after Done quiet h = absurd h
+stops-may (Once command) before after (Missing digest) quiet h = absurd h
+stops-may (Once command) before after (Usage kind) quiet h = absurd h
+stops-may (Once command) before after ReadFault quiet h = absurd (quiet h.why)
+stops-may (Once command) before after WriteFault quiet h = absurd h
+stops-may (Once command) before after FolderFault quiet h = absurd h
+stops-may (Once command) before after (Damaged name error) quiet h = absurd h
+stops-may (Once command) before after (Full full) quiet h = absurd h
+stops-may (Once command) before after (Poisoned wanted kept) quiet h = absurd h
+stops-may (Once command) before after (Dangling index digest) quiet h = absurd h
+stops-may (Once command) before after (BadScript line kind) quiet h = absurd h
+stops-may (Once command) before after Held quiet h = absurd h
+stops-may (Once command) before after (TooLarge Data number) quiet h = tt
+stops-may (Once command) before after (TooLarge References number) quiet h = absurd h
+stops-may (Once command) before after (TooLarge ScriptBytes number) quiet h = absurd h
+stops-may (Once command) before after NoMemory quiet h = tt
+stops-may Batch before after Done quiet h = absurd h
+stops-may Batch before after (Missing digest) quiet h = absurd h
+stops-may Batch before after (Usage kind) quiet h = absurd h
+stops-may Batch before after ReadFault quiet h = absurd (quiet h)
+stops-may Batch before after WriteFault quiet h = absurd h
+stops-may Batch before after FolderFault quiet h = absurd h
+stops-may Batch before after (Damaged name error) quiet h = absurd h
+stops-may Batch before after (Full full) quiet h = absurd h
+stops-may Batch before after (Poisoned wanted kept) quiet h = absurd h
+stops-may Batch before after (Dangling index digest) quiet h = absurd h
+stops-may Batch before after (BadScript line kind) quiet h = tt
+stops-may Batch before after Held quiet h = absurd h
+stops-may Batch before after (TooLarge ScriptBytes number) quiet h = tt
+stops-may Batch before after (TooLarge References number) quiet h = absurd h
+stops-may Batch before after (TooLarge Data number) quiet h = absurd h
+stops-may Batch before after NoMemory quiet h = tt
+stops-may (Workload rounds) before after given quiet h = given-memory (Workload rounds) given h.0
+stops-may Validate before after given quiet h = absurd h
+
+-- ---- a folder that is readable is not damaged
+
+undamaged : (files : Option Files) (name : ℕ) (error : ImageError) → IsReadable files → IsRefused files name error → ⊥
+undamaged None name error readable refused = readable
+undamaged (Some files) name error readable refused =
+    let there = readable name refused.highest in
+    let has = there.1 in
+    let damage = refused.damage in
+    let same : Some damage.file ≡ Some (image_bytes has.words) = sym damage.there ∙ has.file in
+    damage.named (lawful-read has.words has.size there.0 error has.words_are has.stands (subst (λ (bs : List ℕ). RefusesImage bs error) (some-same same) damage.refused)) where
+      some-same : {X : Type 0} {x y : X} → Some x ≡ Some y → x ≡ y
+      some-same h = cc h
+
+opens-may :
+    (task : Task) (old new : FolderView) (given : Answer) → (Rose old.faults new.faults → ⊥) → (Rose old.held new.held → ⊥) → IsReadable old.files → OpenCause old new given → MayAnswer task given
+opens-may task old new Done quiet free readable h = absurd h
+opens-may task old new (Missing digest) quiet free readable h = absurd h
+opens-may task old new (Usage kind) quiet free readable h = absurd h
+opens-may task old new ReadFault quiet free readable h = absurd h
+opens-may task old new WriteFault quiet free readable h = absurd h
+opens-may task old new FolderFault quiet free readable h = absurd (quiet h)
+opens-may task old new (Damaged name error) quiet free readable h = absurd (undamaged old.files name error readable h)
+opens-may task old new (Full full) quiet free readable h = absurd h
+opens-may task old new (Poisoned wanted kept) quiet free readable h = absurd h
+opens-may task old new (Dangling index digest) quiet free readable h = absurd h
+opens-may task old new (BadScript line kind) quiet free readable h = absurd h
+opens-may task old new Held quiet free readable h = absurd (free h)
+opens-may task old new (TooLarge what number) quiet free readable h = absurd h
+opens-may task old new NoMemory quiet free readable h = memory-may task
+
+saves-may :
+    (task : Task) (number : ℕ) (due : Option (Vec ℕ Global)) (old between new : FolderView) (given : Answer) → (Rose old.faults new.faults → ⊥) → old.faults ≤ between.faults
+    → SavingStops number due between new given → MayAnswer task given
+saves-may task number due old between new given quiet later stops = by-error stops.error stops.is stops.saves.to where
+  by-error : (error : SaveError) → given ≡ save_answer error → SavesTo (generation_name number) stops.image.items between new (Err error) → MayAnswer task given
+  by-error save.FolderFault is to = absurd (quiet (rose-since old.faults between.faults new.faults later to.1))
+  by-error save.Memory is to = given-memory task given is
+
+-- ---- answers in place of a text
+
+-- they come of a task with one call alone
+denied-may : (task : Task) (before after : Source) (work : Work) (replies : Replies) (objects actions : ℕ) (given : Answer) → IsWork task before after work → IsOfReply given
+    → Reports work.report work.script replies objects actions (Denied given) → MayAnswer task given
+denied-may (Once command) before after work replies objects actions given is_work of h = one given of where
+  one : (own : Answer) → IsOfReply own → MayAnswer (Once command) own
+  one Done own = absurd own
+  one (Missing digest) own = tt
+  one (Usage kind) own = absurd own
+  one ReadFault own = absurd own
+  one WriteFault own = absurd own
+  one FolderFault own = absurd own
+  one (Damaged name error) own = absurd own
+  one (Full full) own = tt
+  one (Poisoned wanted kept) own = tt
+  one (Dangling index digest) own = tt
+  one (BadScript line kind) own = absurd own
+  one Held own = absurd own
+  one (TooLarge what number) own = absurd own
+  one NoMemory own = absurd own
+denied-may Batch before after work replies objects actions given is_work of h =
+    absurd (subst (λ (r : Report). Reports r work.script replies objects actions (Denied given)) is_work.report_is h)
+denied-may (Workload rounds) before after work replies objects actions given is_work of h =
+    absurd (subst (λ (r : Report). Reports r work.script replies objects actions (Denied given)) is_work.report_is h)
+denied-may Validate before after work replies objects actions given is_work of h = absurd is_work
+
+-- ---- the run
+
+module _ (words : List (String Global)) (before after : World) (front : Front) (quiet : IsQuiet before after) (readable : IsReadable before.outside.folder.files) where
+  refused-may : (given : Answer) → Refuses words before.outside after.outside front given → WordsRefused words given ⊎ AnswersTask words given
+  refused-may given h = elim h [
+    | inl stop ↦ inl stop.why
+    | inr stop ↦ inr (record {
+      request = stop.request;
+      reads = stop.ask.reads;
+      may = elim stop.is [
+        | inl work ↦ stops-may stop.request.task before.outside.source after.outside.source given quiet.source work.why
+        | inr more ↦ elim more [
+          | inl task ↦ elim task.refuses [
+            | inl opening ↦ opens-may stop.request.task before.outside.folder after.outside.folder given quiet.folder quiet.held readable opening.stops.cause
+            | inr later ↦ elim later [
+              | inl running ↦ given-memory stop.request.task given running.memory
+              | inr saving ↦
+                  saves-may stop.request.task saving.opened.number saving.made.image before.outside.folder saving.between after.outside.folder given quiet.folder saving.opens.only.later.faults saving.stops
+            ]
+          ]
+          | inr check ↦ elim check.refuses [
+            | inl opening ↦ opens-may stop.request.task before.outside.folder after.outside.folder given quiet.folder quiet.held readable opening.cause
+            | inr checking ↦ given-memory stop.request.task given checking.memory
+          ]
+        ]
+      ];
+    })
+  ]
+
+  denied-answer : (given : Answer) → Prepares words before.outside after.outside front (Denied given) → AnswersTask words given
+  denied-answer given h = record {
+    request = h.request;
+    reads = h.ask.reads;
+    may = elim h.is [
+      | inl task ↦
+          let run = task.prepares in
+          let closed = closed_of run.has.answered.events in
+          denied-may h.request.task before.outside.source after.outside.source task.work run.has.replies (fin.len closed.objects) (fin.len closed.cache) given task.is_work
+          (prepares-denied words before.outside after.outside front given h)
+          (subst (λ (o : Output). Reports task.work.report task.work.script run.has.replies (fin.len closed.objects) (fin.len closed.cache) o) (sym run.is) run.has.is.reports)
+      | inr check ↦ absurd check.prepares.is
+    ];
+  }
+
+  with-nothing : (given : Answer) → Refuses words before.outside after.outside front given ⊎ Prepares words before.outside after.outside front (Denied given) → WordsRefused words given ⊎ AnswersTask words given
+  with-nothing given why = elim why [ inl refuses ↦ refused-may given refuses | inr prepares ↦ inr (denied-answer given prepares) ]
+
+  answered-task : (given : Answer) → Because words before after front given → WordsRefused words given ⊎ AnswersTask words given
+  answered-task Done h = inr (record { request = h.prepares.request; reads = h.prepares.ask.reads; may = done-may h.prepares.request.task })
+  answered-task (Missing digest) h = with-nothing (Missing digest) h.why
+  answered-task (Usage kind) h = with-nothing (Usage kind) h.why
+  answered-task ReadFault h = with-nothing ReadFault h.why
+  answered-task WriteFault h = absurd (quiet.sink h.rose)
+  answered-task FolderFault h = with-nothing FolderFault h.why
+  answered-task (Damaged name error) h = with-nothing (Damaged name error) h.why
+  answered-task (Full full) h = with-nothing (Full full) h.why
+  answered-task (Poisoned wanted kept) h = with-nothing (Poisoned wanted kept) h.why
+  answered-task (Dangling index digest) h = with-nothing (Dangling index digest) h.why
+  answered-task (BadScript line kind) h = with-nothing (BadScript line kind) h.why
+  answered-task Held h = with-nothing Held h.why
+  answered-task (TooLarge what number) h = with-nothing (TooLarge what number) h.why
+  answered-task NoMemory h = with-nothing NoMemory h.why
+
+pub complete : (words : List (String Global)) (before after : World) (front : Front) (answer : Answer) → Because words before after front answer → IsCompleteRun words before after answer
+complete words before after front answer because quiet readable = answered-task words before after front quiet readable answer because

@@ -1,0 +1,13 @@
+-- why the run gives its answer, and which it gives where nothing fails
+use Rattle.cas_tool.proofs.CompleteLemmas.{complete}
+use Rattle.cas_tool.proofs.RunLemmas.{because}
+use Rattle.cas_tool.proofs.run.cas_run.Goals as goal
+
+pub returns-clause-because : goal.returns-clause-because
+returns-clause-because g c =
+    because c.args.words.now _ _ c.prepare-front.result.0 c.prepare-front.result.1 c.finish-answer.result c.prepare-front.ensures.ok c.prepare-front.ensures.err c.finish-answer.ensures
+
+pub returns-clause-complete : goal.returns-clause-complete
+returns-clause-complete g c =
+    complete c.args.words.now _ _ c.prepare-front.result.0 c.finish-answer.result
+    (because c.args.words.now _ _ c.prepare-front.result.0 c.prepare-front.result.1 c.finish-answer.result c.prepare-front.ensures.ok c.prepare-front.ensures.err c.finish-answer.ensures)

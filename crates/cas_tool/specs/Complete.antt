@@ -1,0 +1,53 @@
+-- What a run answers where nothing fails.
+use Rattle.std.specs.Prelude.{◌≡◌, ℕ, ◌⊎◌, List, None, Some, String}
+use Rattle.std.specs.declared.alloc.Global.{Global}
+use Rattle.std.specs.declared.option.Option.{Option}
+use Rattle.cas_model.specs.State.{State}
+use Rattle.cas_outside.specs.Causes.{Rose}
+use Rattle.cas_outside.specs.Folder.{Files}
+use Rattle.generations.specs.Chain.{HasGeneration, IsHighestBelow}
+use Rattle.generations.specs.FolderState.{HasState}
+use Rattle.cas_tool.specs.declared.answer.Answer.{Answer}
+use Rattle.cas_tool.specs.declared.answer.Answer.TheVariants.{Done, Missing, Full, Poisoned, Dangling, BadScript, TooLarge, NoMemory}
+use Rattle.cas_tool.specs.declared.answer.Large.TheVariants.{Data, Script}
+use Rattle.cas_tool.specs.declared.command.Command.{Command}
+use Rattle.cas_tool.specs.declared.command.Request.{Request}
+use Rattle.cas_tool.specs.declared.command.Task.{Task}
+use Rattle.cas_tool.specs.declared.command.Task.TheVariants.{Once, Batch, Workload, Validate}
+use Rattle.cas_tool.specs.Run.{World, WordsRefused}
+use Rattle.cas_tool.specs.Words.{Reads}
+
+-- no count of faults rose, nor that of the times the lock was found held
+pub record IsQuiet (before after : World) : Type 0 where
+  pub source : Rose before.outside.source.faults after.outside.source.faults → ⊥
+  pub sink : Rose before.sink.faults after.sink.faults → ⊥
+  pub folder : Rose before.outside.folder.faults after.outside.folder.faults → ⊥
+  pub held : Rose before.outside.folder.held after.outside.folder.held → ⊥
+
+-- the files are told, and that of the highest generation, where there is one, is the image of words that stand for a state
+abbrev pub IsReadable : Option Files → Type 0
+IsReadable None = ⊥
+IsReadable (Some files) = (number : ℕ) → IsHighestBelow (HasGeneration files) 4294967296 (Some number) → (state : State) × HasState files number state
+
+-- what a task may answer then: its output, what the one reply of a call gives, that the input is too large or no script, or want of memory
+abbrev pub MayAnswer : Task → Answer → Type 0
+MayAnswer task Done = Unit {0}
+MayAnswer task NoMemory = Unit {0}
+MayAnswer (Once command) (Missing digest) = Unit {0}
+MayAnswer (Once command) (Full full) = Unit {0}
+MayAnswer (Once command) (Poisoned wanted kept) = Unit {0}
+MayAnswer (Once command) (Dangling index digest) = Unit {0}
+MayAnswer (Once command) (TooLarge Data number) = Unit {0}
+MayAnswer Batch (BadScript line kind) = Unit {0}
+MayAnswer Batch (TooLarge Script number) = Unit {0}
+MayAnswer task answer = ⊥
+
+-- the words ask for a task that may answer so
+pub record AnswersTask (words : List (String Global)) (answer : Answer) : Type 0 where
+  pub request : Request
+  pub reads : Reads words request
+  pub may : MayAnswer request.task answer
+
+-- where nothing fails and the folder is readable, the words are refused, or their task has such an answer
+abbrev pub IsCompleteRun : List (String Global) → World → World → Answer → Type 0
+IsCompleteRun words before after answer = IsQuiet before after → IsReadable before.outside.folder.files → WordsRefused words answer ⊎ AnswersTask words answer
