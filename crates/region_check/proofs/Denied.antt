@@ -1,23 +1,19 @@
 -- Words that stand for a state have no flaw.
-use Rattle.std.proofs.Common.{◌≡◌, ◌≢◌, ◌⊎◌, ℕ, zero, suc, ◌+◌, ◌-◌, ◌*◌, ◌/◌, ◌%◌, ◌^◌, ◌<◌, ◌≤◌, List, [], ◌∷◌, ◌++◌, length, get_or, take, drop, inl, inr, refl, sym, ap, ◌∙◌, subst, arith}
+use Rattle.std.proofs.Common.{◌≡◌, ◌≢◌, ℕ, zero, suc, ◌+◌, ◌-◌, ◌*◌, ◌/◌, ◌%◌, ◌^◌, ◌<◌, ◌≤◌, List, [], ◌∷◌, ◌++◌, length, get_or, inl, inr, refl, sym, ap, ◌∙◌, subst, arith}
 use Rattle.std.proofs.lemmas.Bool.{cases_eq, cases_lt}
 use Rattle.std.proofs.lemmas.List.{get_or_append_left, get_or-append-add}
-use Rattle.cas_model.specs.declared.digest.Digest.{Digest}
 use Rattle.cas_model.specs.declared.place.Space.{Space}
-use Rattle.cas_model.specs.declared.place.Space.TheVariants.{Objects, Actions}
+use Rattle.cas_model.specs.declared.place.Space.TheVariants.{Objects}
 use Rattle.cas_model.specs.Content.{IsContent, content_places, content_bytes, content_words, content_head, data_words, words_from}
-use Rattle.cas_model.specs.Object.{object_digest}
 use Rattle.cas_model.specs.State.{State}
 use Rattle.cas_model.specs.Trie.{path}
-use Rattle.region_core.specs.Heap.{Block, Free, Table, Record, Content, Claimed, extent}
-use Rattle.region_core.specs.Leads.{NamesTableAt, NamesRecordAt, Leads, IsSlot, IsRecordOf, IsFilledOf, IsContentOf, IsNamed, digest_there, cell_there, content_there, object_there, length_told}
-use Rattle.region_core.specs.Stands.{IsHeaded, IsLawfulSlot, Stands, AreReferences}
-use Rattle.region_core.specs.Words.{root, width}
-use Rattle.region_core.proofs.Finding.{length-path}
+use Rattle.region_core.specs.Heap.{Block, Table, Record, Content, extent}
+use Rattle.region_core.specs.Leads.{NamesTableAt, NamesRecordAt, Leads, IsSlot, IsFilledOf, IsContentOf, IsNamed, digest_there, cell_there, content_there, length_told}
+use Rattle.region_core.specs.Stands.{Stands, AreReferences}
 use Rattle.region_core.proofs.Founding.{there_read}
 use Rattle.region_core.proofs.Labels.{told, some_words, length-content_words}
 use Rattle.region_check.specs.declared.flaw.FlawKind.{FlawKind}
-use Rattle.region_check.specs.Flaws.{Naming, BySlot, ByCell, Covers, LiesIn, IsShared, IsSlotOf, IsReached, IsNoSlot, NamesOutside, IsTooLong, IsBadHead, HasKind, turn, refs_told, bytes_told, end_told}
+use Rattle.region_check.specs.Flaws.{Naming, BySlot, ByCell, Covers, IsShared, IsNoSlot, NamesOutside, IsTooLong, IsBadHead, HasKind, turn, refs_told, bytes_told, end_told}
 use Rattle.region_check.specs.Passes.{RowOf}
 use Rattle.region_check.proofs.Data.{last_small, content_small}
 use Rattle.region_check.proofs.Loops.{one_lead, leads_down}

@@ -1,12 +1,9 @@
 -- The first flaw, by turns.
-use Rattle.std.proofs.Common.{◌≡◌, ◌≢◌, ◌⊎◌, ℕ, zero, suc, ◌+◌, ◌-◌, ◌<◌, ◌≤◌, List, length, get_or, Some, None, inl, inr, refl, sym, ap, ◌∙◌, subst, arith}
-use Rattle.std.specs.declared.option.Option.{Option}
+use Rattle.std.proofs.Common.{◌≡◌, ◌≢◌, ℕ, zero, suc, ◌+◌, ◌-◌, ◌<◌, ◌≤◌, List, length, get_or, inl, inr, refl, sym, ap, ◌∙◌, subst, arith}
 use Rattle.std.proofs.lemmas.Bool.{cases_eq, cases_lt}
-use Rattle.cas_model.specs.declared.digest.Digest.{Digest}
-use Rattle.region_core.specs.Stands.{IsHeaded}
 use Rattle.region_check.specs.declared.flaw.FlawKind.{FlawKind}
 use Rattle.region_check.specs.declared.flaw.FlawKind.TheVariants as kinds
-use Rattle.region_check.specs.Flaws.{BadHeader, IsBadHead, HasKind, turn, IsFirstFlaw}
+use Rattle.region_check.specs.Flaws.{IsBadHead, HasKind, turn, IsFirstFlaw}
 use Rattle.region_check.specs.Passes.{RowOf, HasNoneBefore, HasHeader}
 
 -- a flaw of a kind is one of its turn

@@ -1,12 +1,11 @@
 -- Words without a flaw are lawful.
-use Rattle.std.proofs.Common.{◌≡◌, ◌≢◌, ◌⊎◌, ℕ, zero, suc, ◌+◌, ◌-◌, ◌*◌, ◌/◌, ◌%◌, ◌^◌, ◌<◌, ◌≤◌, List, [], ◌∷◌, ◌++◌, length, get_or, take, drop, min, Bool, true, false, inl, inr, refl, sym, ap, ◌∙◌, subst, arith}
+use Rattle.std.proofs.Common.{◌≡◌, ◌≢◌, ◌⊎◌, ℕ, zero, suc, ◌+◌, ◌-◌, ◌*◌, ◌/◌, ◌%◌, ◌^◌, ◌<◌, ◌≤◌, List, [], ◌∷◌, ◌++◌, length, get_or, take, drop, min, true, false, inl, inr, refl, sym, ap, ◌∙◌, subst, arith}
 use Rattle.std.proofs.lemmas.Bool.{cases_eq, cases_lt, cases_Bool}
 use Rattle.std.proofs.lemmas.List.{get_or-take, get_or-drop, length-take-le, length-drop, length-take, get_or_past, drop_more, drop-drop}
 use Rattle.cas_model.specs.declared.digest.Digest.{Digest}
-use Rattle.cas_model.specs.declared.object.Object.{Object}
 use Rattle.cas_model.specs.declared.place.Space.{Space}
 use Rattle.cas_model.specs.declared.place.Space.TheVariants.{Objects, Actions}
-use Rattle.cas_model.specs.Content.{IsContent, content_places, content_bytes, content_words, content_head, content_size, data_words, words_from, bytes_of}
+use Rattle.cas_model.specs.Content.{IsContent, content_places, content_bytes, content_head, data_words, words_from, bytes_of}
 use Rattle.cas_model.specs.Object.{object_digest}
 use Rattle.cas_model.specs.Tables.{same_digest}
 use Rattle.cas_model.specs.Trie.{path}
@@ -14,15 +13,14 @@ use Rattle.cas_model.proofs.Maps.{same-is, same-self}
 use Rattle.region_core.specs.Heap.{Block, Free, Table, Record, Content, Claimed, extent}
 use Rattle.region_core.specs.Leads.{NamesTableAt, NamesRecordAt, Leads, IsSlot, IsRecordOf, IsFilledOf, IsContentOf, IsNamed, digest_there, cell_there, content_there, object_there, length_told}
 use Rattle.region_core.specs.Stands.{AreWords, IsHeaded, IsLawfulSlot, AreReferences}
-use Rattle.region_core.specs.Words.{root, width}
+use Rattle.region_core.specs.Words.{root}
 use Rattle.region_core.proofs.Founding.{IsLawful}
-use Rattle.region_core.proofs.Finding.{length-path}
-use Rattle.region_check.specs.Flaws.{Naming, BySlot, ByCell, Covers, LiesIn, IsShared, IsSlotOf, IsReached, IsNoSlot, IsTooLong, refs_told, bytes_told, end_told}
-use Rattle.region_check.specs.Passes.{RowOf, HasNoneBefore}
-use Rattle.region_check.specs.Roles.{AreRoles, IsCellRole}
+use Rattle.region_check.specs.Flaws.{Naming, BySlot, ByCell, LiesIn, IsShared, IsSlotOf, IsReached, IsTooLong, refs_told, bytes_told, end_told}
+use Rattle.region_check.specs.Passes.{HasNoneBefore}
+use Rattle.region_check.specs.Roles.{AreRoles}
 use Rattle.region_check.proofs.Data.{refill}
 use Rattle.region_check.proofs.Summing.{parts_of}
-use Rattle.region_check.proofs.Unique.{one_naming, one_path, one_slot}
+use Rattle.region_check.proofs.Unique.{one_naming, one_slot}
 
 same_list : (xs ys : List ℕ) → (xs ≡ ys) ⊎ (xs ≢ ys)
 same_list [] [] = inl refl

@@ -1,3 +1,4 @@
+pub mod Celling
 pub mod Firsts
 pub mod Loops
 pub mod Lowest

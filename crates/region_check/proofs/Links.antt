@@ -1,31 +1,26 @@
 -- What slots show are the flaws of the table.
-use Rattle.std.proofs.Common.{◌≡◌, ◌≢◌, ◌⊎◌, ℕ, zero, suc, ◌+◌, ◌*◌, ◌<◌, ◌≤◌, min, List, [], ◌∷◌, length, get_or, Some, None, inl, inr, refl, sym, ap, ◌∙◌, subst, arith}
+use Rattle.std.proofs.Common.{◌≡◌, ℕ, suc, ◌+◌, ◌<◌, ◌≤◌, min, List, ◌∷◌, length, get_or, inl, inr, refl, sym, ap, ◌∙◌, subst, arith}
 use Rattle.std.specs.Prelude.{◌↔◌}
 use Rattle.std.specs.declared.option.Option.{Option}
-use Rattle.std.proofs.lemmas.Bool.{cases_eq, cases_lt}
+use Rattle.std.proofs.lemmas.Bool.{cases_eq}
 use Rattle.cas_model.specs.declared.digest.Digest.{Digest}
 use Rattle.cas_model.specs.declared.place.Space.{Space}
 use Rattle.cas_model.specs.declared.place.Space.TheVariants.{Objects, Actions}
-use Rattle.cas_model.specs.Object.{object_digest}
 use Rattle.cas_model.specs.Trie.{path, index_of}
-use Rattle.region_core.specs.Leads.{NamesTableAt, NamesRecordAt, Leads, IsSlot, IsRecordOf, IsFilledOf, IsContentOf, digest_there, cell_there, object_there}
-use Rattle.region_core.specs.Words.{root, width}
+use Rattle.region_core.specs.Leads.{NamesTableAt, NamesRecordAt, Leads, IsSlot, digest_there}
+use Rattle.region_core.specs.Words.{width}
 use Rattle.region_check.specs.declared.reach.Table.{Table}
 use Rattle.region_check.specs.declared.row.Row.{Row}
 use Rattle.region_check.specs.declared.row.Row.TheVariants as rows
-use Rattle.region_check.specs.Flaws.{IsSlotOf, IsReached, IsNoSlot, NamesOutside, IsCellOutside, BadSlot, BadRange, BadLength, BadPath, BadPadding, BadReference, BadOrder, BadDigest, BadValue, IsTooDeep, IsAstray, IsShared, IsTooLong}
+use Rattle.region_check.specs.Flaws.{IsSlotOf, IsNoSlot, NamesOutside, BadSlot, BadRange, BadPath, BadValue, IsShared}
 use Rattle.region_check.specs.Passes.{RowOf, HasNoneBefore}
-use Rattle.region_check.specs.Reach.{slots_of, table_of, IsLed, AreTables}
-use Rattle.region_check.specs.Shown.{LeastWhere, Owns, LeadsTo, ContentShown, DeepShown, AstrayShown, Shown, TableShown, TrieShown, AreTries, IsReadyFor, turn_of}
+use Rattle.region_check.specs.Reach.{slots_of, table_of, AreTables}
+use Rattle.region_check.specs.Shown.{LeastWhere, LeadsTo, BothShown, Shown, TrieShown, AreTries}
 use Rattle.region_core.proofs.Finding.{index_within, length-path}
 use Rattle.region_core.proofs.Founding.{there_digest}
 use Rattle.region_check.proofs.Reaching.{slots_are}
-use Rattle.region_check.proofs.Rows.{least_same, OwnedShown}
-use Rattle.region_check.proofs.Unique.{one_path, one_slot, none_shared}
-
--- what both tries show
-abbrev pub BothShown : List ℕ → Row → List Table → List Table → ℕ → Type 0
-BothShown words row objects actions p = TrieShown words row Objects objects (length objects) p ⊎ TrieShown words row Actions actions (length actions) p
+use Rattle.region_check.proofs.Rows.{least_same}
+use Rattle.region_check.proofs.Unique.{one_slot, none_shared}
 
 -- a slot at the level of its table
 pub record AtLevel (words : List ℕ) (s : Space) (level slot : ℕ) : Type 0 where
@@ -104,56 +99,6 @@ module _ (words : List ℕ) (objects actions : List Table) (tries : AreTries wor
     λ y. in_trie rows.Value Actions y.1.2 p (y.1.0, y.1.1, y.1.3) (λ level at. (refl, (y.0, y.1.4, y.2, y.3, y.4))),
   )
 
-  -- a content that a slot of the objects' trie owns is reached
-  owns_reached : (slot level r c : ℕ) → AtLevel words Objects level slot → Owns words slot r c → IsReached words r c
-  owns_reached slot level r c at own =
-      let filled : cell_there words r ≢ 0 = λ e. omega (arith, own.cell, e, own.low) in
-      ((((at.above, at.index, slot, at.is, own.names), filled), own.cell), own.low, own.within)
-
-  reached_owns : (r c : ℕ) → (x : IsReached words r c) → Owns words x.0.0.0.2 r c
-  reached_owns r c x = record { names = x.0.0.0.4; cell = x.0.1; low = x.1; within = x.2 }
-
-  -- a row whose flaws are those of contents
-  owned_to : (row : Row) (p : ℕ) → ((s : Space) (level slot : ℕ) → Shown words row s level slot p → (s ≡ Objects) × OwnedShown words row slot p) → BothShown words row objects actions p → (r c : ℕ) × IsReached words r c × ContentShown words row r c p
-  owned_to row p is x =
-      let z = of_tries row p x in
-      let a = is z.0 z.2 z.1 z.4 in
-      (a.1.0, a.1.1, owns_reached z.1 z.2 a.1.0 a.1.1 (subst (λ (s : Space). AtLevel words s z.2 z.1) a.0 z.3) a.1.2, a.1.3)
-
-  owned_from : (row : Row) (p : ℕ) → ((level slot : ℕ) → OwnedShown words row slot p → Shown words row Objects level slot p) → (r c : ℕ) → IsReached words r c → ContentShown words row r c p → BothShown words row objects actions p
-  owned_from row p is r c x shown = in_trie row Objects x.0.0.0.2 p (x.0.0.0.0, x.0.0.0.1, x.0.0.0.3) (λ level at. is level x.0.0.0.2 (r, c, reached_owns r c x, shown))
-
-  length_row : (p : ℕ) → BothShown words rows.Length objects actions p ↔ BadLength words p
-  length_row p = (
-    λ x. let z = owned_to rows.Length p (λ s level slot a. a) x in (z.0, subst (IsReached words z.0) (sym z.3.0) z.2, subst (IsTooLong words) (sym z.3.0) z.3.1),
-    λ y. owned_from rows.Length p (λ level slot a. (refl, a)) y.0 p y.1 (refl, y.2),
-  )
-
-  padding_row : (p : ℕ) → BothShown words rows.Padding objects actions p ↔ BadPadding words p
-  padding_row p = (λ x. owned_to rows.Padding p (λ s level slot a. a) x, λ y. owned_from rows.Padding p (λ level slot a. (refl, a)) y.0 y.1 y.2 y.3)
-
-  reference_row : (p : ℕ) → BothShown words rows.Reference objects actions p ↔ BadReference words p
-  reference_row p = (
-    λ x. let z = owned_to rows.Reference p (λ s level slot a. a) x in (z.0, z.1, z.2, z.3.0, z.3.1),
-    λ y. owned_from rows.Reference p (λ level slot a. (refl, a)) y.0 y.1 y.2 (y.3, y.4),
-  )
-
-  order_row : (p : ℕ) → BothShown words rows.Order objects actions p ↔ BadOrder words p
-  order_row p = (
-    λ x. let z = owned_to rows.Order p (λ s level slot a. a) x in (z.0, z.1, z.2, z.3.0, z.3.1),
-    λ y. owned_from rows.Order p (λ level slot a. (refl, a)) y.0 y.1 y.2 (y.3, y.4),
-  )
-
-  digest_row : (p : ℕ) → BothShown words rows.Digest objects actions p ↔ ((kept found : Digest) × BadDigest words kept found p)
-  digest_row p = (
-    λ x.
-        let z = owned_to rows.Digest p (λ s level slot a. a) x in
-        (digest_there words p, object_digest (object_there words z.1), (z.1, subst (λ r. IsReached words r z.1) (sym z.3.0) z.2, refl, refl, λ e. z.3.1 (ap (digest_there words) (sym z.3.0) ∙ e))),
-    λ y.
-        let b = y.2 in
-        owned_from rows.Digest p (λ level slot a. (refl, a)) p b.0 b.1 (refl, λ e. b.4 (b.2 ∙ e ∙ sym b.3)),
-  )
-
   -- ---- paths
 
   module _ (apart : (w : ℕ) → IsShared words w → ⊥) where
@@ -217,15 +162,19 @@ module _ (words : List ℕ) (objects actions : List Table) (tries : AreTries wor
         )),
   )
 
-  -- ---- all rows
+  -- ---- the least ones
 
-  pub row_least : (roles : List ℕ) (row : Row) (o : Option ℕ) → IsReadyFor words roles row → LeastWhere (BothShown words row objects actions) o → LeastWhere (RowOf words (turn_of row)) o
-  row_least roles rows.Slot o ready h = least_same (BothShown words rows.Slot objects actions) (RowOf words 3) o (λ p. (slot_row p).0) (λ p. (slot_row p).1) h
-  row_least roles rows.Range o ready h = least_same (BothShown words rows.Range objects actions) (RowOf words 4) o (λ p. (range_row p).0) (λ p. (range_row p).1) h
-  row_least roles rows.Length o ready h = least_same (BothShown words rows.Length objects actions) (RowOf words 5) o (λ p. (length_row p).0) (λ p. (length_row p).1) h
-  row_least roles rows.Path o ready h = least_same (BothShown words rows.Path objects actions) (RowOf words 7) o (λ p. (path_row (none_shared words ready) p).0) (λ p. (path_row (none_shared words ready) p).1) h
-  row_least roles rows.Padding o ready h = least_same (BothShown words rows.Padding objects actions) (RowOf words 8) o (λ p. (padding_row p).0) (λ p. (padding_row p).1) h
-  row_least roles rows.Reference o ready h = least_same (BothShown words rows.Reference objects actions) (RowOf words 9) o (λ p. (reference_row p).0) (λ p. (reference_row p).1) h
-  row_least roles rows.Order o ready h = least_same (BothShown words rows.Order objects actions) (RowOf words 10) o (λ p. (order_row p).0) (λ p. (order_row p).1) h
-  row_least roles rows.Digest o ready h = least_same (BothShown words rows.Digest objects actions) (RowOf words 11) o (λ p. (digest_row p).0) (λ p. (digest_row p).1) h
-  row_least roles rows.Value o ready h = least_same (BothShown words rows.Value objects actions) (RowOf words 12) o (λ p x. (refl, (value_row p).0 x)) (λ p y. (value_row p).1 y.1) h
+  pub slot_least : (o : Option ℕ) → LeastWhere (BothShown words rows.Slot objects actions) o → LeastWhere (RowOf words 3) o
+  slot_least o h = least_same (BothShown words rows.Slot objects actions) (RowOf words 3) o (λ p. (slot_row p).0) (λ p. (slot_row p).1) h
+
+  pub range_least : (o : Option ℕ) → LeastWhere (BothShown words rows.Range objects actions) o → LeastWhere (RowOf words 4) o
+  range_least o h = least_same (BothShown words rows.Range objects actions) (RowOf words 4) o (λ p. (range_row p).0) (λ p. (range_row p).1) h
+
+  pub path_least : (o : Option ℕ) → LeastWhere (BothShown words rows.Path objects actions) o → HasNoneBefore words 7 → LeastWhere (RowOf words 7) o
+  path_least o h none = least_same (BothShown words rows.Path objects actions) (RowOf words 7) o (λ p. (path_row (none_shared words none) p).0) (λ p. (path_row (none_shared words none) p).1) h
+
+  pub value_least : (o : Option ℕ) → LeastWhere (TrieShown words rows.Value Actions actions (length actions)) o → LeastWhere (RowOf words 12) o
+  value_least o h = least_same (TrieShown words rows.Value Actions actions (length actions)) (RowOf words 12) o (λ p x. (refl, (value_row p).0 (inr x))) (λ p y. from_value p y.1) h
+    where
+      from_value : (p : ℕ) → BadValue words p → TrieShown words rows.Value Actions actions (length actions) p
+      from_value p y = from_slot words rows.Value Actions actions tries.actions_are y.1.2 p (y.1.0, y.1.1, y.1.3) (λ level at. (refl, (y.0, y.1.4, y.2, y.3, y.4)))

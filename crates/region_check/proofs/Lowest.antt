@@ -1,15 +1,15 @@
 -- The least place over slots, tables and tries.
-use Rattle.std.proofs.Common.{◌≡◌, ◌⊎◌, ℕ, ◌+◌, ◌<◌, ◌≤◌, min, List, length, Some, None, inl, inr, refl, sym, ap, ◌∙◌, subst, arith}
+use Rattle.std.proofs.Common.{◌≡◌, ◌⊎◌, ℕ, ◌+◌, min, List, length, Some, None, inl, inr, refl, sym, ap, ◌∙◌, subst, arith}
 use Rattle.std.specs.declared.option.Option.{Option}
 use Rattle.std.proofs.lemmas.Bool.{cases_eq, cases_lt}
 use Rattle.cas_model.specs.declared.place.Space.{Space}
+use Rattle.cas_model.specs.declared.place.Space.TheVariants.{Objects, Actions}
+use Rattle.region_check.specs.declared.least.Leasts.{Leasts}
+use Rattle.region_check.specs.declared.least.Rows.{Rows}
 use Rattle.region_check.specs.declared.reach.Table.{Table}
 use Rattle.region_check.specs.declared.row.Row.{Row}
-use Rattle.region_core.specs.Words.{width}
-use Rattle.region_check.specs.Flaws.{IsSlotOf}
-use Rattle.region_check.specs.Reach.{slots_of, table_of, IsLed, AreTables}
-use Rattle.region_check.specs.Shown.{LeastWhere, IsLeastWhere, Shown, TableShown, TrieShown, lower_of}
-use Rattle.region_check.proofs.Reaching.{slots_are}
+use Rattle.region_check.specs.Reach.{slots_of, table_of}
+use Rattle.region_check.specs.Shown.{LeastWhere, LeastOfEach, Shown, TableShown, TrieShown, lower_of}
 use Rattle.region_check.proofs.Rows.{least_same}
 
 -- the lower one is the least of both
@@ -25,12 +25,6 @@ least_lower P Q (Some a) (Some b) p q = elim (cases_lt a b) [
       let is : min a b ≡ b = omega arith in
       record { here = inr (subst Q (sym is) q.here); least = λ m x. elim x [ inl y ↦ omega (arith, p.least m y) | inr y ↦ omega (arith, q.least m y) ] }
 ]
-
--- a slot of a listed table is one of its trie
-pub slot_of_table : (words : List ℕ) (s : Space) (table : Table) (j : ℕ) → IsLed words s table → j < slots_of table → IsSlotOf words s (table.place + j)
-slot_of_table words s table j led h =
-    let wide = slots_are words s led.above table table.place led led.leads refl in
-    (led.above, j, (table.place, led.leads, omega (arith, h, wide), refl))
 
 module _ (words : List ℕ) (row : Row) (s : Space) where
   pub table_none : (table : Table) (n : ℕ) → TableShown words row s table 0 n → ⊥
@@ -68,3 +62,41 @@ module _ (words : List ℕ) (row : Row) (s : Space) where
         | inl same ↦ inr (subst (λ (t : Table). TableShown words row s t (slots_of t) n) (ap (table_of tables) same ∙ sym is) x.2)
         | inr other ↦ inl (x.0, omega (arith, x.1), x.2)
       ]
+
+-- ---- three rows at once
+
+-- the lower ones are the least of both, for each row
+pub each_lower :
+    (P Q R : Row → ℕ → Type 0) (three : Rows) (old here new : Leasts) → new.first ≡ lower_of old.first here.first → new.second ≡ lower_of old.second here.second → new.third ≡ lower_of old.third here.third
+    → ((row : Row) (a b : Option ℕ) → LeastWhere (P row) a → LeastWhere (Q row) b → LeastWhere (R row) (lower_of a b)) → LeastOfEach P three old → LeastOfEach Q three here → LeastOfEach R three new
+each_lower P Q R three old here new first second third go a b = record {
+  first = subst (LeastWhere (R three.first)) (sym first) (go three.first old.first here.first a.first b.first);
+  second = subst (LeastWhere (R three.second)) (sym second) (go three.second old.second here.second a.second b.second);
+  third = subst (LeastWhere (R three.third)) (sym third) (go three.third old.third here.third a.third b.third);
+}
+
+-- no table was looked at
+pub each_none : (words : List ℕ) (s : Space) (three : Rows) (tables : List Table) → LeastOfEach (λ row. TrieShown words row s tables 0) three (record { first = None; second = None; third = None })
+each_none words s three tables = record {
+  first = trie_none words three.first s tables;
+  second = trie_none words three.second s tables;
+  third = trie_none words three.third s tables;
+}
+
+-- one more table was looked at
+pub each_more :
+    (words : List ℕ) (s : Space) (three : Rows) (tables : List Table) (k : ℕ) (old here new : Leasts) → new.first ≡ lower_of old.first here.first → new.second ≡ lower_of old.second here.second → new.third ≡ lower_of old.third here.third
+    → LeastOfEach (λ row. TrieShown words row s tables k) three old → LeastOfEach (λ row. TableShown words row s (table_of tables k) (slots_of (table_of tables k))) three here → LeastOfEach (λ row. TrieShown words row s tables (k + 1)) three new
+each_more words s three tables k old here new first second third a b =
+    each_lower (λ row. TrieShown words row s tables k) (λ row. TableShown words row s (table_of tables k) (slots_of (table_of tables k))) (λ row. TrieShown words row s tables (k + 1)) three old here new first second third
+    (λ row x y p q. trie_more words row s tables k (table_of tables k) x y refl p q) a b
+
+-- the lower ones of both tries
+pub each_both :
+    (words : List ℕ) (three : Rows) (objects actions : List Table) (one two new : Leasts) → new.first ≡ lower_of one.first two.first → new.second ≡ lower_of one.second two.second → new.third ≡ lower_of one.third two.third
+    → LeastOfEach (λ row. TrieShown words row Objects objects (length objects)) three one → LeastOfEach (λ row. TrieShown words row Actions actions (length actions)) three two
+    → LeastOfEach (λ row p. TrieShown words row Objects objects (length objects) p ⊎ TrieShown words row Actions actions (length actions) p) three new
+each_both words three objects actions one two new first second third a b =
+    each_lower (λ row. TrieShown words row Objects objects (length objects)) (λ row. TrieShown words row Actions actions (length actions))
+    (λ row p. TrieShown words row Objects objects (length objects) p ⊎ TrieShown words row Actions actions (length actions) p) three one two new first second third
+    (λ row x y p q. least_lower (TrieShown words row Objects objects (length objects)) (TrieShown words row Actions actions (length actions)) x y p q) a b

@@ -1,15 +1,14 @@
 -- Words are given their roles.
-use Rattle.std.proofs.Common.{◌≡◌, ◌≢◌, ◌⊎◌, ℕ, ◌+◌, ◌*◌, ◌/◌, ◌%◌, ◌<◌, ◌≤◌, List, length, get_or, set, replicate, length-set, get_or-set_same, get_or-set_other, inl, inr, refl, sym, ap, ◌∙◌, subst, arith}
+use Rattle.std.proofs.Common.{◌≡◌, ◌≢◌, ◌⊎◌, ℕ, ◌+◌, ◌/◌, ◌%◌, ◌<◌, List, length, get_or, set, length-set, get_or-set_same, get_or-set_other, inl, inr, refl, sym, ap, ◌∙◌, subst, arith}
 use Rattle.std.specs.Prelude.{◌↔◌}
-use Rattle.std.proofs.lemmas.Bool.{cases_eq, cases_lt}
+use Rattle.std.proofs.lemmas.Bool.{cases_eq}
 use Rattle.cas_model.specs.declared.place.Space.{Space}
 use Rattle.cas_model.specs.declared.place.Space.TheVariants.{Objects, Actions}
-use Rattle.region_core.specs.Leads.{NamesRecordAt, Leads, IsRecordOf}
-use Rattle.region_core.specs.Words.{width}
+use Rattle.region_core.specs.Leads.{NamesRecordAt}
 use Rattle.region_check.specs.declared.reach.Table.{Table}
 use Rattle.region_check.specs.Flaws.{IsSlotOf}
-use Rattle.region_check.specs.Reach.{slots_of, table_of, IsLed, AreTables}
-use Rattle.region_check.specs.Roles.{IsSlotRole, IsCellRole, IsCellOf, AreRoles, AreUnclaimed, Adds, NamesCell, TableSlot, TableCell, TrieSlot, TrieCell}
+use Rattle.region_check.specs.Reach.{slots_of, table_of, AreTables}
+use Rattle.region_check.specs.Roles.{IsSlotRole, IsCellOf, AreRoles, AreUnclaimed, Adds, NamesCell, TableSlot, TableCell, TrieSlot, TrieCell}
 use Rattle.region_check.specs.Shown.{AreTries}
 use Rattle.region_check.proofs.Reaching.{slots_are}
 

@@ -1,26 +1,23 @@
 -- What single slots show.
-use Rattle.std.proofs.Common.{◌≡◌, ◌≢◌, ◌⊎◌, ℕ, zero, suc, ◌+◌, ◌*◌, ◌/◌, ◌%◌, ◌<◌, ◌≤◌, List, [], ◌∷◌, length, get_or, Bool, true, false, not, Some, None, inl, inr, refl, sym, ap, ◌∙◌, subst, arith}
+use Rattle.std.proofs.Common.{◌≡◌, ◌≢◌, ℕ, ◌+◌, ◌/◌, ◌%◌, ◌<◌, ◌≤◌, List, [], ◌∷◌, length, get_or, Bool, true, false, not, Some, None, inl, inr, refl, sym, ap, ◌∙◌, subst, arith}
 use Rattle.std.specs.Prelude.{IsTrue, ◌↔◌}
 use Rattle.std.specs.declared.option.Option.{Option}
 use Rattle.cas_model.specs.declared.digest.Digest.{Digest}
 use Rattle.cas_model.specs.declared.place.Space.{Space}
 use Rattle.cas_model.specs.Trie.{IsDigest}
 use Rattle.cas_model.specs.declared.place.Space.TheVariants.{Objects, Actions}
-use Rattle.cas_model.specs.Object.{object_digest}
 use Rattle.cas_model.specs.Tables.{same_digest}
 use Rattle.cas_model.proofs.Maps.{same-self, same-is}
-use Rattle.region_core.specs.Leads.{NamesTableAt, NamesRecordAt, Leads, IsFilledOf, digest_there, object_there}
-use Rattle.region_check.specs.Passes.{RowOf, HasNoneBefore}
+use Rattle.region_core.specs.Leads.{NamesTableAt, NamesRecordAt, Leads, IsFilledOf, digest_there}
+use Rattle.region_check.specs.Passes.{HasNoneBefore}
 use Rattle.region_check.specs.Sums.{Fits}
-use Rattle.std.proofs.lemmas.Bool.{cases_lt, cases_Bool}
+use Rattle.std.proofs.lemmas.Bool.{cases_lt}
 use Rattle.region_core.specs.Words.{HasWords, words_of, slot_word, root, width}
 use Rattle.region_core.specs.declared.slot.Slot.{Slot}
 use Rattle.region_core.specs.declared.slot.Slot.TheVariants as slots
 use Rattle.region_core.proofs.Reading.{digest_held-there}
-use Rattle.region_check.specs.Flaws.{IsSlotOf, IsNoSlot, NamesOutside, IsCellOutside, IsReached, BadLength, IsTooLong, refs_told, bytes_told, end_told}
-use Rattle.region_check.specs.Shown.{DeepShown, AstrayShown, LeadsTo, Owns, IsLeastWhere, LeastWhere, ContentShown, Shown}
-use Rattle.region_check.specs.declared.row.Row.{Row}
-use Rattle.region_check.specs.declared.row.Row.TheVariants as rows
+use Rattle.region_check.specs.Flaws.{IsSlotOf, IsNoSlot, NamesOutside, IsReached, IsTooLong, refs_told, bytes_told, end_told}
+use Rattle.region_check.specs.Shown.{DeepShown, AstrayShown, LeadsTo, IsLeastWhere, LeastWhere}
 
 pub outside_record : (words : List ℕ) (slot : ℕ) → get_or words slot 0 % 4 ≡ 1 → ((p : ℕ) → NamesRecordAt words slot p → ⊥) → NamesOutside words slot
 outside_record words slot one none = inl (get_or words slot 0 / 4, omega arith, none (get_or words slot 0 / 4))
@@ -55,9 +52,6 @@ astray words s level slot p d leads high named digest has are =
     back : (b : Bool) → (IsTrue b → ⊥) → IsTrue (not b)
     back true h = absurd (h refl)
     back false h = refl
-
-pub no_owner : (words : List ℕ) (slot : ℕ) → ((p : ℕ) → NamesRecordAt words slot p → ⊥) → (r c : ℕ) → Owns words slot r c → ⊥
-no_owner words slot none r c x = none r x.names
 
 -- a flaw at the slot itself
 pub least_here : (P : Type 0) (slot : ℕ) → P → IsLeastWhere (λ p. (p ≡ slot) × P) slot
@@ -125,21 +119,6 @@ least_same P Q (Some n) to back h = record { here = to n h.here; least = λ m q.
 
 pub least_with : (A : Type 0) (P : ℕ → Type 0) (o : Option ℕ) → A → LeastWhere P o → LeastWhere (λ n. A × P n) o
 least_with A P o a h = least_same P (λ n. A × P n) o (λ n x. (a, x)) (λ n x. x.1) h
-
--- what a slot of the objects' trie shows of the content that it leads to
-abbrev pub OwnedShown : List ℕ → Row → ℕ → ℕ → Type 0
-OwnedShown words row slot p = (r c : ℕ) × Owns words slot r c × ContentShown words row r c p
-
-module _ (words : List ℕ) (row : Row) (s : Space) (level slot : ℕ) (o : Option ℕ) (objects : s ≡ Objects) (h : LeastWhere (OwnedShown words row slot) o) where
-  at_row : (r : Row) → row ≡ r → (LeastWhere (OwnedShown words r slot) o → LeastWhere (Shown words r s level slot) o) → LeastWhere (Shown words row s level slot) o
-  at_row r e go = subst (λ (z : Row). LeastWhere (Shown words z s level slot) o) (sym e) (go (subst (λ (z : Row). LeastWhere (OwnedShown words z slot) o) e h))
-
-  pub owned_shown : (row ≡ rows.Length) ⊎ ((row ≡ rows.Padding) ⊎ ((row ≡ rows.Reference) ⊎ ((row ≡ rows.Order) ⊎ (row ≡ rows.Digest)))) → LeastWhere (Shown words row s level slot) o
-  owned_shown (inl e) = at_row rows.Length e (least_with (s ≡ Objects) (OwnedShown words rows.Length slot) o objects)
-  owned_shown (inr (inl e)) = at_row rows.Padding e (least_with (s ≡ Objects) (OwnedShown words rows.Padding slot) o objects)
-  owned_shown (inr (inr (inl e))) = at_row rows.Reference e (least_with (s ≡ Objects) (OwnedShown words rows.Reference slot) o objects)
-  owned_shown (inr (inr (inr (inl e)))) = at_row rows.Order e (least_with (s ≡ Objects) (OwnedShown words rows.Order slot) o objects)
-  owned_shown (inr (inr (inr (inr e)))) = at_row rows.Digest e (least_with (s ≡ Objects) (OwnedShown words rows.Digest slot) o objects)
 
 -- a slot lies within the words
 pub slot_within : (words : List ℕ) (s : Space) (slot : ℕ) → 520 ≤ length words → IsSlotOf words s slot → slot < length words

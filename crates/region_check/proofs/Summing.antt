@@ -1,15 +1,14 @@
 -- What is hashed of a content.
 use Rattle.std.proofs.Common.{◌≡◌, ℕ, zero, suc, ◌+◌, ◌-◌, ◌*◌, ◌/◌, ◌%◌, ◌^◌, ◌<◌, ◌≤◌, List, [], ◌∷◌, ◌++◌, length, get_or, take, drop, refl, sym, ap, ◌∙◌, subst, arith, append_assoc}
 use Rattle.std.specs.Int.{w64, to_le_bytes}
-use Rattle.std.proofs.lemmas.List.{take_more, drop_more, drop-take, drop-drop, append-nil, length-drop, length-take-le}
+use Rattle.std.proofs.lemmas.List.{take_more, drop_more, drop-take, drop-drop, append-nil, length-drop, length-take-le, take-take}
 use Rattle.cas_model.specs.declared.digest.Digest.{Digest}
-use Rattle.cas_model.specs.Content.{content_places, content_bytes, content_size, bytes_of}
-use Rattle.cas_model.specs.Object.{canon, object_digest, ref_bytes, le64}
+use Rattle.cas_model.specs.Content.{content_places, content_bytes, bytes_of}
+use Rattle.cas_model.specs.Object.{canon, ref_bytes, le64}
 use Rattle.cas_model.specs.Trie.{IsDigest}
 use Rattle.region_core.specs.Leads.{digest_there, digests_there, content_there, object_there, length_told}
 use Rattle.region_core.specs.Words.{HasWords, words_of}
 use Rattle.region_core.proofs.Reading.{digest_held-there}
-use Rattle.region_check.specs.Sums.{Fits, AreWithin}
 
 digests_append : (words ps qs : List ℕ) → digests_there words (ps ++ qs) ≡ digests_there words ps ++ digests_there words qs
 digests_append words [] qs = refl
@@ -31,19 +30,6 @@ refs_more words places m i d h digest has =
     ∙ ap ref_bytes (sym (digests_append words (take i places) (get_or places i 0 ∷ [])))
     ∙ ap (λ ps. ref_bytes (digests_there words ps)) (sym (take_more places i 0 h)))
 
-bytes_append : (xs ys : List ℕ) → bytes_of (xs ++ ys) ≡ bytes_of xs ++ bytes_of ys
-bytes_append [] ys = refl
-bytes_append (x ∷ xs) ys = ap (λ bs. to_le_bytes w64 x ++ bs) (bytes_append xs ys) ∙ sym (append_assoc (to_le_bytes w64 x) (bytes_of xs) (bytes_of ys))
-
--- eight bytes more
-pub bytes_more : (words m : List ℕ) (i : ℕ) → i < length words → (m ++ bytes_of (take i words)) ++ to_le_bytes w64 (get_or words i 0) ≡ m ++ bytes_of (take (i + 1) words)
-bytes_more words m i h =
-    append_assoc m (bytes_of (take i words)) (to_le_bytes w64 (get_or words i 0))
-    ∙ ap (λ bs. m ++ bs)
-    (ap (λ bs. bytes_of (take i words) ++ bs) (sym (append-nil (to_le_bytes w64 (get_or words i 0))))
-    ∙ sym (bytes_append (take i words) (get_or words i 0 ∷ []))
-    ∙ ap bytes_of (sym (take_more words i 0 h)))
-
 take_none : (k : ℕ) → take {A = ℕ} k [] ≡ []
 take_none zero = refl
 take_none (suc k) = refl
@@ -56,28 +42,30 @@ bytes_split (w ∷ words) (suc k) r =
     let more : 8 * suc k + r ≡ suc (suc (suc (suc (suc (suc (suc (suc (8 * k + r)))))))) = omega arith in
     ap (λ n. take n (to_le_bytes w64 w ++ bytes_of words)) more ∙ ap (λ bs. to_le_bytes w64 w ++ bs) (bytes_split words k r) ∙ sym (append_assoc (to_le_bytes w64 w) (bytes_of (take k words)) (take r (bytes_of (drop k words))))
 
-take_left : (xs ys : List ℕ) (r : ℕ) → r ≤ length xs → take r (xs ++ ys) ≡ take r xs
-take_left xs ys zero h = refl
-take_left [] ys (suc r) h = absurd (omega arith)
-take_left (x ∷ xs) ys (suc r) h = ap (λ zs. x ∷ zs) (take_left xs ys r (omega arith))
+-- the bytes of the first words
+bytes_take : (words : List ℕ) (n : ℕ) → bytes_of (take n words) ≡ take (8 * n) (bytes_of words)
+bytes_take words n = sym (append-nil (bytes_of (take n words))) ∙ sym (bytes_split words n 0) ∙ ap (λ k. take k (bytes_of words)) (let e : 8 * n + 0 ≡ 8 * n = omega arith in e)
 
--- data that ends inside a word
-pub data_split : (words m : List ℕ) (length_ : ℕ) → length_ / 8 < length words → (m ++ bytes_of (take (length_ / 8) words)) ++ take (length_ % 8) (to_le_bytes w64 (get_or words (length_ / 8) 0)) ≡ m ++ take length_ (bytes_of words)
-data_split words m n h =
-    let whole : 8 * (n / 8) + n % 8 ≡ n = omega arith in
-    let short : n % 8 ≤ 8 = omega arith in
-    append_assoc m (bytes_of (take (n / 8) words)) (take (n % 8) (to_le_bytes w64 (get_or words (n / 8) 0)))
-    ∙ ap (λ bs. m ++ bs)
-    (ap (λ bs. bytes_of (take (n / 8) words) ++ bs) (sym (ap (λ ws. take (n % 8) (bytes_of ws)) (drop_more words (n / 8) 0 h) ∙ take_left (to_le_bytes w64 (get_or words (n / 8) 0)) (bytes_of (drop (n / 8 + 1) words)) (n % 8) short))
-    ∙ sym (bytes_split words (n / 8) (n % 8)) ∙ ap (λ k. take k (bytes_of words)) whole)
+-- the first bytes, and some of those after them
+bytes_next : (words m : List ℕ) (n r : ℕ) → (m ++ take (8 * n) (bytes_of words)) ++ take r (bytes_of (drop n words)) ≡ m ++ take (8 * n + r) (bytes_of words)
+bytes_next words m n r =
+    append_assoc m (take (8 * n) (bytes_of words)) (take r (bytes_of (drop n words)))
+    ∙ ap (λ bs. m ++ bs) (ap (λ bs. bs ++ take r (bytes_of (drop n words))) (sym (bytes_take words n)) ∙ sym (bytes_split words n r))
 
--- data that fills its words
-pub data_whole : (words m : List ℕ) (length_ : ℕ) → length words ≡ (length_ + 7) / 8 → length words ≤ length_ / 8 → m ++ bytes_of (take (length_ / 8) words) ≡ m ++ take length_ (bytes_of words)
-data_whole words m n long h =
-    let whole : 8 * length words + 0 ≡ n = omega arith in
-    let all : n / 8 ≡ length words = omega arith in
-    ap (λ bs. m ++ bs)
-    (ap (λ k. bytes_of (take k words)) all ∙ sym (append-nil (bytes_of (take (length words) words))) ∙ sym (bytes_split words (length words) 0) ∙ ap (λ k. take k (bytes_of words)) whole)
+-- a whole piece more
+pub piece_more : (words m : List ℕ) (i : ℕ) → (m ++ take (256 * i) (bytes_of words)) ++ take 256 (bytes_of (take 32 (drop (32 * i) words))) ≡ m ++ take (256 * (i + 1)) (bytes_of words)
+piece_more words m i =
+    let before : 256 * i ≡ 8 * (32 * i) = omega arith in
+    let after : 8 * (32 * i) + 256 ≡ 256 * (i + 1) = omega arith in
+    let whole : take 256 (bytes_of (take 32 (drop (32 * i) words))) ≡ take 256 (bytes_of (drop (32 * i) words)) = ap (take 256) (bytes_take (drop (32 * i) words) 32) ∙ take-take 256 256 (bytes_of (drop (32 * i) words)) (omega arith) in
+    (λ j. (m ++ take (before j) (bytes_of words)) ++ whole j) ∙ bytes_next words m (32 * i) 256 ∙ ap (λ k. m ++ take k (bytes_of words)) after
+
+-- and what is left
+pub piece_last : (words m : List ℕ) (count : ℕ) → (m ++ take (256 * (count / 256)) (bytes_of words)) ++ take (count % 256) (bytes_of (drop (32 * (count / 256)) words)) ≡ m ++ take count (bytes_of words)
+piece_last words m count =
+    let before : 256 * (count / 256) ≡ 8 * (32 * (count / 256)) = omega arith in
+    let after : 8 * (32 * (count / 256)) + count % 256 ≡ count = omega arith in
+    ap (λ k. (m ++ take k (bytes_of words)) ++ take (count % 256) (bytes_of (drop (32 * (count / 256)) words))) before ∙ bytes_next words m (32 * (count / 256)) (count % 256) ∙ ap (λ k. m ++ take k (bytes_of words)) after
 
 length-bytes_of : (ws : List ℕ) → length (bytes_of ws) ≡ 8 * length ws
 length-bytes_of [] = refl

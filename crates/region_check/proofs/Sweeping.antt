@@ -1,17 +1,13 @@
 -- The least word that lies in two blocks.
-use Rattle.std.proofs.Common.{◌≡◌, ◌≢◌, ◌⊎◌, ℕ, ◌+◌, ◌-◌, ◌*◌, ◌/◌, ◌%◌, ◌<◌, ◌≤◌, min, List, length, get_or, set, length-set, get_or-set_same, get_or-set_other, Some, None, inl, inr, refl, sym, ap, ◌∙◌, subst, arith}
-use Rattle.std.specs.Prelude.{◌↔◌}
+use Rattle.std.proofs.Common.{◌≡◌, ◌≢◌, ◌⊎◌, ℕ, ◌+◌, ◌-◌, ◌/◌, ◌%◌, ◌<◌, ◌≤◌, min, List, length, get_or, set, length-set, get_or-set_same, get_or-set_other, Some, None, inl, inr, refl, sym, ap, ◌∙◌, subst, arith}
 use Rattle.std.specs.declared.option.Option.{Option}
 use Rattle.std.proofs.lemmas.Bool.{cases_eq, cases_lt}
 use Rattle.cas_model.specs.declared.place.Space.{Space}
-use Rattle.cas_model.specs.declared.place.Space.TheVariants.{Objects, Actions}
-use Rattle.region_core.specs.Words.{root, width}
-use Rattle.region_core.specs.Leads.{Leads}
 use Rattle.region_check.specs.Flaws.{Naming, BySlot, ByCell, Covers, LiesIn, IsShared, IsSlotOf, IsReached, end_told}
-use Rattle.region_check.specs.Passes.{HasNoneBefore, RowOf}
+use Rattle.region_check.specs.Passes.{HasNoneBefore}
 use Rattle.region_check.proofs.Rows.{slot_within}
-use Rattle.region_check.specs.Roles.{IsSlotRole, IsCellRole, IsClaimed, AreRoles, AreUnclaimed}
-use Rattle.region_check.specs.Shown.{LeastWhere, IsLeastWhere, lower_of}
+use Rattle.region_check.specs.Roles.{IsClaimed, AreRoles, AreUnclaimed}
+use Rattle.region_check.specs.Shown.{LeastWhere, lower_of}
 use Rattle.region_check.specs.Sweep.{MarkedRun, BlockMarked, OneSwept, IsBefore, SharedOf, IsBelow, Swept}
 use Rattle.region_core.specs.Leads.{length_told}
 use Rattle.region_check.proofs.Rows.{least_same}

@@ -1,12 +1,12 @@
 -- Where no word lies in two blocks, each table has one path.
-use Rattle.std.proofs.Common.{◌≡◌, ◌≢◌, ◌⊎◌, ℕ, zero, suc, ◌+◌, ◌*◌, ◌<◌, ◌≤◌, List, [], ◌∷◌, length, get_or, inl, inr, refl, sym, ap, ◌∙◌, subst, arith}
-use Rattle.std.proofs.lemmas.Bool.{cases_eq, cases_lt}
+use Rattle.std.proofs.Common.{◌≡◌, ℕ, ◌+◌, ◌<◌, ◌≤◌, List, [], ◌∷◌, get_or, inl, inr, refl, sym, ap, ◌∙◌, arith}
+use Rattle.std.proofs.lemmas.Bool.{cases_eq}
 use Rattle.cas_model.specs.declared.place.Space.{Space}
 use Rattle.cas_model.specs.declared.place.Space.TheVariants.{Objects, Actions}
-use Rattle.region_core.specs.Leads.{NamesTableAt, NamesRecordAt, Leads, IsSlot}
+use Rattle.region_core.specs.Leads.{Leads, IsSlot}
 use Rattle.region_core.specs.Words.{root, width}
-use Rattle.region_check.specs.Flaws.{Naming, BySlot, ByCell, Covers, LiesIn, IsShared, IsSlotOf}
-use Rattle.region_check.specs.Passes.{HasNoneBefore, RowOf}
+use Rattle.region_check.specs.Flaws.{Naming, BySlot, ByCell, LiesIn, IsShared}
+use Rattle.region_check.specs.Passes.{HasNoneBefore}
 
 module _ (words : List ℕ) (apart : (w : ℕ) → IsShared words w → ⊥) where
   -- two namings of blocks with a common word are one

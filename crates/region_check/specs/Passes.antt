@@ -1,5 +1,5 @@
 -- The flaws by the turn in which they are looked for.
-use Rattle.std.specs.Prelude.{◌≡◌, ℕ, zero, suc, ◌<◌, ◌≤◌, List, length, slice_index}
+use Rattle.std.specs.Prelude.{◌≡◌, ℕ, zero, suc, ◌<◌, List, slice_index}
 use Rattle.cas_model.specs.declared.digest.Digest.{Digest}
 use Rattle.region_core.specs.Stands.{IsHeaded}
 use Rattle.region_check.specs.Flaws.{BadHeader, IsPastCounter, BadSlot, BadRange, BadLength, IsShared, BadPath, BadPadding, BadReference, BadOrder, BadDigest, BadValue}

@@ -1,5 +1,5 @@
 -- The tables that a root leads to, whatever the words are.
-use Rattle.std.specs.Prelude.{◌≡◌, ℕ, zero, suc, ◌+◌, ◌*◌, ◌<◌, ◌≤◌, ◌==◌, cond, min, List, [], ◌∷◌, ◌++◌, length, slice_index_or, slice_set, ◌⊎◌, Bool, true, false}
+use Rattle.std.specs.Prelude.{◌≡◌, ℕ, suc, ◌+◌, ◌*◌, ◌<◌, ◌≤◌, ◌==◌, cond, min, List, [], ◌∷◌, ◌++◌, length, slice_index_or, slice_set, ◌⊎◌, Bool, true, false}
 use Rattle.cas_model.specs.declared.place.Space.{Space}
 use Rattle.region_core.specs.Leads.{NamesTableAt, Leads}
 use Rattle.region_core.specs.Words.{root}

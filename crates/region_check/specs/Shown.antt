@@ -7,10 +7,12 @@ use Rattle.cas_model.specs.declared.place.Space.TheVariants.{Objects, Actions}
 use Rattle.cas_model.specs.Object.{object_digest}
 use Rattle.cas_model.specs.Trie.{path, index_of}
 use Rattle.region_core.specs.Leads.{NamesTableAt, NamesRecordAt, Leads, IsFilledOf, digest_there, cell_there, object_there}
+use Rattle.region_check.specs.declared.least.Leasts.{Leasts}
+use Rattle.region_check.specs.declared.least.Rows.{Rows}
 use Rattle.region_check.specs.declared.reach.Table.{Table}
 use Rattle.region_check.specs.declared.row.Row.{Row}
 use Rattle.region_check.specs.declared.row.Row.TheVariants as rows
-use Rattle.region_check.specs.Flaws.{IsNoSlot, NamesOutside, IsCellOutside, IsTooLong, IsStray, IsReferenceWord, IsReached, refs_told, end_told}
+use Rattle.region_check.specs.Flaws.{IsNoSlot, NamesOutside, IsCellOutside, IsTooLong, IsStray, IsReferenceWord, IsReached}
 use Rattle.region_check.specs.Passes.{HasNoneBefore}
 use Rattle.region_check.specs.Reach.{slots_of, table_of, AreTables}
 use Rattle.region_check.specs.Roles.{AreRoles}
@@ -24,13 +26,6 @@ pub record IsLeastWhere (P : ℕ → Type 0) (n : ℕ) : Type 0 where
 abbrev pub LeastWhere : (ℕ → Type 0) → Option ℕ → Type 0
 LeastWhere P None = (n : ℕ) → P n → ⊥
 LeastWhere P (Some n) = IsLeastWhere P n
-
--- the slot names a record whose cell names a content in the arena
-pub record Owns (words : List ℕ) (slot owner place : ℕ) : Type 0 where
-  pub names : NamesRecordAt words slot owner
-  pub cell : place ≡ cell_there words owner
-  pub low : 520 ≤ place
-  pub within : place < length words
 
 -- a digest leads to a slot, at a level from 0 to 62
 abbrev pub LeadsTo : List ℕ → Space → Digest → ℕ → Type 0
@@ -61,7 +56,7 @@ Shown words rows.Range s level slot p =
 Shown words rows.Path s level slot p = (p ≡ slot) × (DeepShown words level slot ⊎ AstrayShown words s level slot)
 Shown words rows.Value s level slot p =
     (s ≡ Actions) × ((r : ℕ) × NamesRecordAt words slot r × (p ≡ r + 4) × (slice_index words p ≢ 0) × (IsFilledOf words Objects (slice_index words p) → ⊥))
-Shown words row s level slot p = (s ≡ Objects) × ((r c : ℕ) × Owns words slot r c × ContentShown words row r c p)
+Shown words row s level slot p = ⊥
 
 -- what a slot of the listed tables shows
 abbrev pub TableShown : List ℕ → Row → Space → Table → ℕ → ℕ → Type 0
@@ -70,13 +65,42 @@ TableShown words row s table n p = (j : ℕ) × (j < n) × Shown words row s tab
 abbrev pub TrieShown : List ℕ → Row → Space → List Table → ℕ → ℕ → Type 0
 TrieShown words row s tables n p = (k : ℕ) × (k < n) × TableShown words row s (table_of tables k) (slots_of (table_of tables k)) p
 
+-- what both tries show
+abbrev pub BothShown : List ℕ → Row → List Table → List Table → ℕ → Type 0
+BothShown words row objects actions p = TrieShown words row Objects objects (length objects) p ⊎ TrieShown words row Actions actions (length actions) p
+
+-- what the content shows that a word names which is the cell of an object's record
+abbrev pub CellShown : List ℕ → Row → ℕ → ℕ → Type 0
+CellShown words row cell p = (r c : ℕ) × (cell ≡ r + 4) × IsReached words r c × ContentShown words row r c p
+
+-- what the contents show that the first words name
+abbrev pub CellsShown : List ℕ → Row → ℕ → ℕ → Type 0
+CellsShown words row n p = (cell : ℕ) × (cell < n) × CellShown words row cell p
+
+-- the rows whose flaws contents show
+abbrev pub IsOfContents : Row → Type 0
+IsOfContents rows.Length = Unit {0}
+IsOfContents rows.Padding = Unit {0}
+IsOfContents rows.Reference = Unit {0}
+IsOfContents rows.Order = Unit {0}
+IsOfContents rows.Digest = Unit {0}
+IsOfContents row = ⊥
+
 -- what must be known before a row is looked for
 abbrev pub IsReadyFor : List ℕ → List ℕ → Row → Type 0
 IsReadyFor words roles rows.Reference = AreRoles words roles
 IsReadyFor words roles rows.Value = AreRoles words roles
 IsReadyFor words roles rows.Digest = HasNoneBefore words 10
-IsReadyFor words roles rows.Path = HasNoneBefore words 7
 IsReadyFor words roles row = Unit {0}
+
+abbrev pub AreReadyFor : List ℕ → List ℕ → Rows → Type 0
+AreReadyFor words roles three = IsReadyFor words roles three.first × IsReadyFor words roles three.second × IsReadyFor words roles three.third
+
+-- the least number for each of three rows of which something of that row holds
+pub record LeastOfEach (P : Row → ℕ → Type 0) (three : Rows) (leasts : Leasts) : Type 0 where
+  pub first : LeastWhere (P three.first) leasts.first
+  pub second : LeastWhere (P three.second) leasts.second
+  pub third : LeastWhere (P three.third) leasts.third
 
 -- the lower one of two numbers, of those that there are
 abbrev pub lower_of : Option ℕ → Option ℕ → Option ℕ

@@ -1,6 +1,5 @@
 -- Contents that can be hashed.
-use Rattle.std.specs.Prelude.{◌≡◌, ℕ, ◌+◌, ◌<◌, ◌≤◌, List, length, slice_index}
-use Rattle.cas_model.specs.declared.place.Space.TheVariants.{Objects}
+use Rattle.std.specs.Prelude.{ℕ, ◌+◌, ◌<◌, ◌≤◌, List, length, slice_index}
 use Rattle.region_check.specs.Flaws.{refs_told, bytes_told, end_told}
 
 -- each is the place of a record within the words

@@ -4,10 +4,11 @@ ghost use Rattle.frozen_store.specs.Seen.{HasState};
 ghost use Rattle.region_check.specs.Flaws.{HasKind, turn, IsFirstFlaw, Refuses};
 ghost use Rattle.region_check.specs.Passes.{RowOf, HasNoneBefore, HasHeader};
 ghost use Rattle.region_check.specs.Roles.{AreRoles, AreUnclaimed};
-ghost use Rattle.region_check.specs.Shown.{AreTries, IsReadyFor, turn_of};
+ghost use Rattle.region_check.specs.Shown.{LeastWhere, AreTries, IsOfContents, IsReadyFor, turn_of};
 
+use crate::cells::least_in_contents;
 use crate::header::head_flaw;
-use crate::least::{Tries, least_flaw};
+use crate::least::{Leasts, Tries, least_in_slots, least_value};
 use crate::names::word_at;
 use crate::reach::reach;
 use crate::roles::roles_of;
@@ -47,16 +48,14 @@ fn kind_at(words: &[u64], row: Row, place: u64) -> FlawKind
     }
 }
 
-/// The first flaw of a row of the table, where no earlier row has one.
-fn row_flaw(words: &[u64], roles: &[u8], row: Row, tries: &Tries) -> Option<Flaw>
-    requires least { 520 ≤ length words.now }
+/// The first flaw, where no earlier row has one and this row has its least one at a place.
+fn flaw_of(words: &[u64], row: Row, least: Option<u64>) -> Option<Flaw>
     requires short { length words.now ≤ 67108864 }
     requires none { HasNoneBefore words.now (turn_of row) }
-    requires ready { IsReadyFor words.now roles.now row }
-    requires tries { AreTries words.now tries.now.objects.items tries.now.actions.items }
+    requires least { LeastWhere (RowOf words.now (turn_of row)) least }
     ensures { MatchOption result (HasNoneBefore words.now (suc (turn_of row))) (λ flaw. IsFirstFlaw words.now flaw) }
 {
-    match least_flaw(words, roles, row, tries) {
+    match least {
         None => None,
         Some(place) => Some(Flaw {
             place,
@@ -65,64 +64,77 @@ fn row_flaw(words: &[u64], roles: &[u8], row: Row, tries: &Tries) -> Option<Flaw
     }
 }
 
-/// The first flaw of what slots and cells name.
-fn name_flaw(words: &[u64], tries: &Tries) -> Option<Flaw>
-    requires header { HasHeader words.now }
-    requires tries { AreTries words.now tries.now.objects.items tries.now.actions.items }
-    ensures { MatchOption result (HasNoneBefore words.now 6) (λ flaw. IsFirstFlaw words.now flaw) }
+/// The first flaw of a row of contents, where no earlier row has one.
+fn row_flaw(words: &[u64], roles: &[u8], row: Row) -> Option<Flaw>
+    requires short { length words.now ≤ 67108864 }
+    requires none { HasNoneBefore words.now (turn_of row) }
+    requires contents { IsOfContents row }
+    requires roles { AreRoles words.now roles.now }
+    requires ready { IsReadyFor words.now roles.now row }
+    ensures { MatchOption result (HasNoneBefore words.now (suc (turn_of row))) (λ flaw. IsFirstFlaw words.now flaw) }
 {
-    match row_flaw(words, &[], Row::Slot, tries) {
+    flaw_of(words, row, least_in_contents(words, roles, row))
+}
+
+/// The first flaw of slots and of what they and cells name.
+fn name_flaw(words: &[u64], leasts: Leasts) -> Option<Flaw>
+    requires header { HasHeader words.now }
+    requires slot { LeastWhere (RowOf words.now 3) leasts.first }
+    requires range { LeastWhere (RowOf words.now 4) leasts.second }
+    ensures { MatchOption result (HasNoneBefore words.now 5) (λ flaw. IsFirstFlaw words.now flaw) }
+{
+    match flaw_of(words, Row::Slot, leasts.first) {
         Some(flaw) => Some(flaw),
-        None => match row_flaw(words, &[], Row::Range, tries) {
-            Some(flaw) => Some(flaw),
-            None => row_flaw(words, &[], Row::Length, tries),
-        },
+        None => flaw_of(words, Row::Range, leasts.second),
     }
 }
 
-/// The first flaw of paths and of the words of contents, where blocks are apart.
-fn content_flaw(words: &[u64], roles: &[u8], tries: &Tries) -> Option<Flaw>
-    requires least { 520 ≤ length words.now }
+/// The first flaw of the words of contents, and of their digests.
+fn content_flaw(words: &[u64], roles: &[u8]) -> Option<Flaw>
     requires short { length words.now ≤ 67108864 }
-    requires none { HasNoneBefore words.now 7 }
+    requires none { HasNoneBefore words.now 8 }
     requires roles { AreRoles words.now roles.now }
-    requires tries { AreTries words.now tries.now.objects.items tries.now.actions.items }
-    ensures { MatchOption result (HasNoneBefore words.now 11) (λ flaw. IsFirstFlaw words.now flaw) }
+    ensures { MatchOption result (HasNoneBefore words.now 12) (λ flaw. IsFirstFlaw words.now flaw) }
 {
-    match row_flaw(words, roles, Row::Path, tries) {
+    match row_flaw(words, roles, Row::Padding) {
         Some(flaw) => Some(flaw),
-        None => match row_flaw(words, roles, Row::Padding, tries) {
+        None => match row_flaw(words, roles, Row::Reference) {
             Some(flaw) => Some(flaw),
-            None => match row_flaw(words, roles, Row::Reference, tries) {
+            None => match row_flaw(words, roles, Row::Order) {
                 Some(flaw) => Some(flaw),
-                None => row_flaw(words, roles, Row::Order, tries),
+                None => row_flaw(words, roles, Row::Digest),
             },
         },
     }
 }
 
-/// The first flaw of digests and of the values of actions.
-fn value_flaw(words: &[u64], roles: &[u8], tries: &Tries) -> Option<Flaw>
+/// The first flaw from that of paths on, where blocks are apart.
+fn path_flaw(words: &[u64], roles: &[u8], tries: &Tries, path: Option<u64>) -> Option<Flaw>
     requires least { 520 ≤ length words.now }
     requires short { length words.now ≤ 67108864 }
-    requires none { HasNoneBefore words.now 11 }
+    requires none { HasNoneBefore words.now 7 }
     requires roles { AreRoles words.now roles.now }
     requires tries { AreTries words.now tries.now.objects.items tries.now.actions.items }
+    requires path { LeastWhere (RowOf words.now 7) path }
     ensures { MatchOption result (HasNoneBefore words.now 13) (λ flaw. IsFirstFlaw words.now flaw) }
 {
-    match row_flaw(words, roles, Row::Digest, tries) {
+    match flaw_of(words, Row::Path, path) {
         Some(flaw) => Some(flaw),
-        None => row_flaw(words, roles, Row::Value, tries),
+        None => match content_flaw(words, roles) {
+            Some(flaw) => Some(flaw),
+            None => flaw_of(words, Row::Value, least_value(words, roles, tries)),
+        },
     }
 }
 
 /// The first flaw from that of blocks on: overlap first.
-fn block_flaw(words: &[u64], roles: &mut [u8], tries: &Tries) -> Option<Flaw>
+fn block_flaw(words: &[u64], roles: &mut [u8], tries: &Tries, path: Option<u64>) -> Option<Flaw>
     requires header { HasHeader words.now }
     requires none { HasNoneBefore words.now 6 }
     requires roles { AreRoles words.now roles.old }
     requires unclaimed { AreUnclaimed roles.old }
     requires tries { AreTries words.now tries.now.objects.items tries.now.actions.items }
+    requires path { HasNoneBefore words.now 7 → LeastWhere (RowOf words.now 7) path }
     ensures { MatchOption result (HasState words.now) (λ flaw. IsFirstFlaw words.now flaw) }
 {
     match shared_word(words, roles) {
@@ -130,10 +142,23 @@ fn block_flaw(words: &[u64], roles: &mut [u8], tries: &Tries) -> Option<Flaw>
             place,
             kind: FlawKind::Overlap,
         }),
-        None => match content_flaw(words, roles, tries) {
-            Some(flaw) => Some(flaw),
-            None => value_flaw(words, roles, tries),
-        },
+        None => path_flaw(words, roles, tries, path),
+    }
+}
+
+/// The first flaw from that of lengths on.
+fn length_flaw(words: &[u64], roles: &mut [u8], tries: &Tries, path: Option<u64>) -> Option<Flaw>
+    requires header { HasHeader words.now }
+    requires none { HasNoneBefore words.now 5 }
+    requires roles { AreRoles words.now roles.old }
+    requires unclaimed { AreUnclaimed roles.old }
+    requires tries { AreTries words.now tries.now.objects.items tries.now.actions.items }
+    requires path { HasNoneBefore words.now 7 → LeastWhere (RowOf words.now 7) path }
+    ensures { MatchOption result (HasState words.now) (λ flaw. IsFirstFlaw words.now flaw) }
+{
+    match row_flaw(words, roles, Row::Length) {
+        Some(flaw) => Some(flaw),
+        None => block_flaw(words, roles, tries, path),
     }
 }
 
@@ -157,11 +182,12 @@ fn first_flaw(alloc: Global, words: &[u64]) -> Result<Option<Flaw>, AllocError>
         return Ok(Some(flaw));
     }
     let tries = tries_of(alloc, words)?;
-    if let Some(flaw) = name_flaw(words, &tries) {
+    let leasts = least_in_slots(words, &tries);
+    if let Some(flaw) = name_flaw(words, leasts) {
         return Ok(Some(flaw));
     }
     let mut roles = roles_of(alloc, words, &tries)?;
-    let first = block_flaw(words, &mut roles, &tries);
+    let first = length_flaw(words, &mut roles, &tries, leasts.third);
     Ok(first)
 }
 
@@ -169,7 +195,7 @@ fn first_flaw(alloc: Global, words: &[u64]) -> Result<Option<Flaw>, AllocError>
 /// kind by kind in the order of the table in docs/REGION.md, and of one kind the one with the least place. The table is
 /// this project's own. It fails with `Memory` where there is none.
 ///
-/// It reads each table once for each trie that leads to it, however many slots name it, and takes a time that is linear
+/// It lists each table once for each trie that leads to it, however many slots name it, and takes a time that is linear
 /// in the words, with one hash of each present object. Beside the words it takes a byte a word, and a list of tables.
 pub fn check(alloc: Global, words: Vec<u64>) -> Result<Frozen, CheckError>
     ensures lawful { IfOk result (λ frozen. frozen.words ≡ words.items) }

@@ -5,7 +5,7 @@ ghost use Rattle.cas_model.specs.Object.{object_digest};
 ghost use Rattle.region_core.specs.Leads.{IsFilledOf, digest_there, object_there, cell_there};
 ghost use Rattle.region_check.specs.Flaws.{IsTooLong, IsStray, IsReferenceWord, refs_told, bytes_told, end_told};
 ghost use Rattle.region_check.specs.Roles.{AreRoles};
-ghost use Rattle.region_check.specs.Shown.{LeastWhere, ContentShown, IsReadyFor, Owns};
+ghost use Rattle.region_check.specs.Shown.{LeastWhere, ContentShown, IsReadyFor};
 ghost use Rattle.region_check.specs.declared.row.Row.TheVariants as rows;
 
 use crate::names::word_at;

@@ -1,9 +1,10 @@
-// The least place of a flaw of one row.
+// The least places of the flaws of rows, three rows in one walk.
 ghost use Rattle.std.specs.Prelude.{◌≡◌, ℕ, ◌⊎◌, ◌≤◌, length};
 ghost use Rattle.cas_model.specs.declared.place.Space.TheVariants.{Objects, Actions};
 ghost use Rattle.region_check.specs.Reach.{AreTables, IsLed, slots_of};
-ghost use Rattle.region_check.specs.Shown.{LeastWhere, TableShown, TrieShown, IsReadyFor, lower_of, AreTries, turn_of};
-ghost use Rattle.region_check.specs.Passes.{RowOf};
+ghost use Rattle.region_check.specs.Shown.{LeastWhere, LeastOfEach, TableShown, TrieShown, IsReadyFor, AreReadyFor, lower_of, AreTries};
+ghost use Rattle.region_check.specs.Passes.{RowOf, HasNoneBefore};
+ghost use Rattle.region_check.specs.Roles.{AreRoles};
 
 use crate::reach::Table;
 use crate::row::{Row, flaw_at};
@@ -16,14 +17,47 @@ pub(crate) struct Tries {
     pub actions: Vec<Table>,
 }
 
-/// The lower one of two places, of those that there are.
+/// Three rows that one walk looks for.
+#[derive(Clone, Copy)]
+pub(crate) struct Rows {
+    pub first: Row,
+    pub second: Row,
+    pub third: Row,
+}
+
+/// The least place of a flaw of each of three rows.
+#[derive(Clone, Copy)]
+pub(crate) struct Leasts {
+    pub first: Option<u64>,
+    pub second: Option<u64>,
+    pub third: Option<u64>,
+}
+
+impl Leasts {
+    /// The lower ones of two places each, of those that there are.
+    fn lower(self, other: Leasts) -> Leasts
+        ensures first { result.first ≡ lower_of self.first other.first }
+        ensures second { result.second ≡ lower_of self.second other.second }
+        ensures third { result.third ≡ lower_of self.third other.third }
+    {
+        Leasts {
+            first: lower(self.first, other.first),
+            second: lower(self.second, other.second),
+            third: lower(self.third, other.third),
+        }
+    }
+}
+
+/// The lower one of two places, of those that there are. The second one, which is seldom there, is looked at first.
 pub(crate) fn lower(one: Option<u64>, two: Option<u64>) -> Option<u64>
     ensures { result ≡ lower_of one two }
 {
-    match (one, two) {
-        (Some(a), Some(b)) if b < a => Some(b),
-        (Some(a), _) => Some(a),
-        (None, other) => other,
+    match two {
+        None => one,
+        Some(b) => match one {
+            Some(a) if a < b => Some(a),
+            _ => Some(b),
+        },
     }
 }
 
@@ -64,27 +98,78 @@ fn least_in_trie(
     least
 }
 
-/// The least place of a flaw of a row that the slots of both tries show.
-fn least_shown(words: &[u64], roles: &[u8], row: Row, tries: &Tries) -> Option<u64>
+/// The least place of a flaw of each row that the slots of a table show. What the table names is near from the first row
+/// on.
+fn leasts_in_table(words: &[u64], roles: &[u8], rows: Rows, space: Space, table: &Table) -> Leasts
     requires least { 520 ≤ length words.now }
     requires short { length words.now ≤ 67108864 }
-    requires ready { IsReadyFor words.now roles.now row }
-    requires tries { AreTries words.now tries.now.objects.items tries.now.actions.items }
-    ensures { LeastWhere (λ p. TrieShown words.now row Objects tries.now.objects.items (length tries.now.objects.items) p ⊎ TrieShown words.now row Actions tries.now.actions.items (length tries.now.actions.items) p) result }
+    requires ready { AreReadyFor words.now roles.now rows }
+    requires led { IsLed words.now space table.now }
+    ensures { LeastOfEach (λ row. TableShown words.now row space table.now (slots_of table.now)) rows result }
 {
-    lower(
-        least_in_trie(words, roles, row, Space::Objects, &tries.objects),
-        least_in_trie(words, roles, row, Space::Actions, &tries.actions),
-    )
+    Leasts {
+        first: least_in_table(words, roles, rows.first, space, table),
+        second: least_in_table(words, roles, rows.second, space, table),
+        third: least_in_table(words, roles, rows.third, space, table),
+    }
 }
 
-/// The least place of a flaw of a row of the table.
-pub(crate) fn least_flaw(words: &[u64], roles: &[u8], row: Row, tries: &Tries) -> Option<u64>
+/// The least place of a flaw of each row that the slots of listed tables show.
+fn leasts_in_trie(words: &[u64], roles: &[u8], rows: Rows, space: Space, tables: &[Table]) -> Leasts
     requires least { 520 ≤ length words.now }
     requires short { length words.now ≤ 67108864 }
-    requires ready { IsReadyFor words.now roles.now row }
-    requires tries { AreTries words.now tries.now.objects.items tries.now.actions.items }
-    ensures { LeastWhere (RowOf words.now (turn_of row)) result }
+    requires ready { AreReadyFor words.now roles.now rows }
+    requires tables { AreTables words.now space tables.now }
+    ensures { LeastOfEach (λ row. TrieShown words.now row space tables.now (length tables.now)) rows result }
 {
-    least_shown(words, roles, row, tries)
+    let mut leasts = Leasts {
+        first: None,
+        second: None,
+        third: None,
+    };
+    for table in tables {
+        leasts = leasts.lower(leasts_in_table(words, roles, rows, space, table));
+    }
+    leasts
+}
+
+/// The least place of a flaw of each row that the slots of both tries show.
+fn leasts_shown(words: &[u64], roles: &[u8], rows: Rows, tries: &Tries) -> Leasts
+    requires least { 520 ≤ length words.now }
+    requires short { length words.now ≤ 67108864 }
+    requires ready { AreReadyFor words.now roles.now rows }
+    requires tries { AreTries words.now tries.now.objects.items tries.now.actions.items }
+    ensures { LeastOfEach (λ row p. TrieShown words.now row Objects tries.now.objects.items (length tries.now.objects.items) p ⊎ TrieShown words.now row Actions tries.now.actions.items (length tries.now.actions.items) p) rows result }
+{
+    let objects = leasts_in_trie(words, roles, rows, Space::Objects, &tries.objects);
+    let actions = leasts_in_trie(words, roles, rows, Space::Actions, &tries.actions);
+    objects.lower(actions)
+}
+
+/// The least places of flaws of slots, of ranges and of paths, in this order.
+pub(crate) fn least_in_slots(words: &[u64], tries: &Tries) -> Leasts
+    requires least { 520 ≤ length words.now }
+    requires short { length words.now ≤ 67108864 }
+    requires tries { AreTries words.now tries.now.objects.items tries.now.actions.items }
+    ensures slot { LeastWhere (RowOf words.now 3) result.first }
+    ensures range { LeastWhere (RowOf words.now 4) result.second }
+    ensures path { HasNoneBefore words.now 7 → LeastWhere (RowOf words.now 7) result.third }
+{
+    let rows = Rows {
+        first: Row::Slot,
+        second: Row::Range,
+        third: Row::Path,
+    };
+    leasts_shown(words, &[], rows, tries)
+}
+
+/// The least place of a flaw of an action's value.
+pub(crate) fn least_value(words: &[u64], roles: &[u8], tries: &Tries) -> Option<u64>
+    requires least { 520 ≤ length words.now }
+    requires short { length words.now ≤ 67108864 }
+    requires roles { AreRoles words.now roles.now }
+    requires tries { AreTries words.now tries.now.objects.items tries.now.actions.items }
+    ensures { LeastWhere (RowOf words.now 12) result }
+{
+    least_in_trie(words, roles, Row::Value, Space::Actions, &tries.actions)
 }

@@ -1,6 +1,7 @@
 //! The check of words that come from strangers: a closed region, or the first flaw by name and place.
 #![tactic(auto)]
 
+mod cells;
 mod checking;
 mod contents;
 mod flaw;

@@ -1,22 +1,18 @@
 // The flaws that slots show, row by row of the table.
 ghost use Rattle.std.specs.Prelude.{◌≡◌, ◌≢◌, ℕ, ◌+◌, ◌<◌, ◌≤◌, ◌⊎◌, length, slice_index, MatchOption, IsTrue, ◌↔◌};
-ghost use Rattle.cas_model.specs.Object.{object_digest};
 ghost use Rattle.cas_model.specs.declared.place.Space.TheVariants.{Objects};
-ghost use Rattle.region_core.specs.Leads.{NamesRecordAt, IsFilledOf, digest_there, object_there};
-ghost use Rattle.region_check.specs.Flaws.{IsSlotOf, IsNoSlot, NamesOutside, IsCellOutside, IsReached};
-ghost use Rattle.region_check.specs.Passes.{HasNoneBefore};
+ghost use Rattle.region_core.specs.Leads.{NamesRecordAt, IsFilledOf};
+ghost use Rattle.region_check.specs.Flaws.{IsNoSlot, NamesOutside, IsCellOutside};
 ghost use Rattle.region_check.specs.Roles.{AreRoles};
-ghost use Rattle.region_check.specs.Shown.{LeastWhere, Shown, ContentShown, DeepShown, AstrayShown, Owns, IsReadyFor};
-ghost use Rattle.region_check.specs.Sums.{Fits};
+ghost use Rattle.region_check.specs.Shown.{LeastWhere, Shown, DeepShown, AstrayShown, IsReadyFor};
 
-use crate::contents::{absent_reference, high_reference, is_present, is_too_long, stray};
-use crate::names::{record_at, table_at, word_at};
+use crate::contents::is_present;
+use crate::names::{record_at, table_at};
 use crate::paths::leads_to;
-use crate::sum::content_digest;
 use cas_model::Space;
 use region_core::{Slot, record_digest};
 
-/// A kind of flaw that a slot shows.
+/// A kind of flaw that slots or contents show.
 #[derive(Clone, Copy)]
 pub(crate) enum Row {
     Slot,
@@ -28,74 +24,6 @@ pub(crate) enum Row {
     Order,
     Digest,
     Value,
-}
-
-/// A record with the content that its cell names.
-#[derive(Clone, Copy)]
-struct Owned {
-    owner: u64,
-    place: u64,
-}
-
-/// The record that a slot names and its content, where both lie in the arena.
-fn owned_at(words: &[u64], slot: usize) -> Option<Owned>
-    requires { slot < length words.now }
-    ensures { MatchOption result ((r c : ℕ) → Owns words.now slot r c → ⊥) (λ owned. Owns words.now slot owned.owner owned.place) }
-{
-    match record_at(words, slot) {
-        None => None,
-        Some(owner) => {
-            let place = word_at(words, owner + 4);
-            if place >= 520 && place < words.len() as u64 {
-                Some(Owned { owner, place })
-            } else {
-                None
-            }
-        }
-    }
-}
-
-/// Whether an object's content has another digest than its record.
-fn has_other_digest(words: &[u64], owned: Owned) -> bool
-    requires none { HasNoneBefore words.now 10 }
-    requires reached { IsReached words.now owned.owner owned.place }
-    requires short { length words.now ≤ 67108864 }
-    ensures { IsTrue result ↔ (digest_there words.now owned.owner ≢ object_digest (object_there words.now owned.place)) }
-{
-    let kept = record_digest(words, owned.owner as usize);
-    let found = content_digest(words, owned.place as usize);
-    let same = kept == found;
-    !same
-}
-
-/// The least place of a flaw of a row in an object's content.
-fn content_flaw(words: &[u64], roles: &[u8], row: Row, owned: Owned) -> Option<u64>
-    requires ready { IsReadyFor words.now roles.now row }
-    requires reached { IsReached words.now owned.owner owned.place }
-    requires short { length words.now ≤ 67108864 }
-    ensures { LeastWhere (λ p. ContentShown words.now row owned.owner owned.place p) result }
-{
-    let place = owned.place as usize;
-    match row {
-        Row::Length => {
-            if is_too_long(words, place) {
-                Some(owned.place)
-            } else {
-                None
-            }
-        }
-        Row::Padding => stray(words, place),
-        Row::Reference => absent_reference(words, roles, place),
-        Row::Order => high_reference(words, place),
-        Row::Digest => {
-            if has_other_digest(words, owned) {
-                Some(owned.owner)
-            } else {
-                None
-            }
-        }
-        Row::Slot | Row::Range | Row::Path | Row::Value => None,
-    }
 }
 
 /// Whether a slot names a record or a subtrie outside of the arena.
@@ -233,20 +161,6 @@ fn value_flaw(words: &[u64], roles: &[u8], slot: usize) -> Option<u64>
     }
 }
 
-/// The least place of a flaw of a row in an object's content, where a slot of the objects' trie names one.
-fn owned_flaw(words: &[u64], roles: &[u8], row: Row, slot: usize) -> Option<u64>
-    requires slot { slot < length words.now }
-    requires reached { IsSlotOf words.now Objects slot }
-    requires ready { IsReadyFor words.now roles.now row }
-    requires short { length words.now ≤ 67108864 }
-    ensures { LeastWhere (λ p. (r c : ℕ) × Owns words.now slot r c × ContentShown words.now row r c p) result }
-{
-    match owned_at(words, slot) {
-        None => None,
-        Some(owned) => content_flaw(words, roles, row, owned),
-    }
-}
-
 /// The least place of a flaw of a row that a slot shows, in a trie and at its table's level.
 pub(crate) fn flaw_at(
     words: &[u64],
@@ -258,7 +172,6 @@ pub(crate) fn flaw_at(
 ) -> Option<u64>
     requires least { 520 ≤ length words.now }
     requires slot { slot < length words.now }
-    requires reached { IsSlotOf words.now space slot }
     requires ready { IsReadyFor words.now roles.now row }
     requires short { length words.now ≤ 67108864 }
     ensures { LeastWhere (λ p. Shown words.now row space level slot p) result }
@@ -271,9 +184,6 @@ pub(crate) fn flaw_at(
             Space::Objects => None,
             Space::Actions => value_flaw(words, roles, slot),
         },
-        Row::Length | Row::Padding | Row::Reference | Row::Order | Row::Digest => match space {
-            Space::Objects => owned_flaw(words, roles, row, slot),
-            Space::Actions => None,
-        },
+        Row::Length | Row::Padding | Row::Reference | Row::Order | Row::Digest => None,
     }
 }

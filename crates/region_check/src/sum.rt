@@ -6,9 +6,16 @@ ghost use Rattle.region_core.specs.Leads.{digests_there, object_there};
 ghost use Rattle.sha2.specs.Hashers.{Holds256};
 ghost use Rattle.region_check.specs.Sums.{Fits, AreWithin};
 
+use byteorder::{ByteOrder, LittleEndian};
 use cas_model::Digest;
 use region_core::{record_digest, split_head};
 use sha2::{Digest as _, Sha256};
+
+/// How many bytes are hashed at a time. A hasher takes long pieces faster than single words.
+const PIECE: usize = 256;
+
+/// The words of these bytes.
+const PIECE_WORDS: usize = 32;
 
 /// Hashes the digests of the records at these places.
 fn hash_references(hasher: &mut Sha256, words: &[u64], places: &[u64])
@@ -20,19 +27,28 @@ fn hash_references(hasher: &mut Sha256, words: &[u64], places: &[u64])
     }
 }
 
+/// Hashes so many bytes of data, one piece at most.
+fn hash_piece(hasher: &mut Sha256, words: &[u64], count: usize)
+    requires long { length words.now ≡ (count + 7) / 8 }
+    requires short { count ≤ 256 }
+    ensures { (m : List ℕ) → Holds256 hasher.old m → Holds256 hasher.new (m ++ take count (bytes_of words.now)) }
+{
+    let mut bytes = [0; PIECE];
+    LittleEndian::write_u64_into(words, &mut bytes[..8 * words.len()]);
+    hasher.update(&bytes[..count]);
+}
+
 /// Hashes so many bytes of data, in words of eight bytes, the low one first.
 fn hash_data(hasher: &mut Sha256, words: &[u64], count: usize)
     requires { length words.now ≡ (count + 7) / 8 }
     ensures { (m : List ℕ) → Holds256 hasher.old m → Holds256 hasher.new (m ++ take count (bytes_of words.now)) }
 {
-    let whole = count / 8;
-    for word in &words[..whole] {
-        hasher.update(word.to_le_bytes());
+    let whole = count / PIECE;
+    for piece in 0..whole {
+        let first = PIECE_WORDS * piece;
+        hash_piece(hasher, &words[first..first + PIECE_WORDS], PIECE);
     }
-    if whole < words.len() {
-        let bytes = words[whole].to_le_bytes();
-        hasher.update(&bytes[..count % 8]);
-    }
+    hash_piece(hasher, &words[PIECE_WORDS * whole..], count % PIECE);
 }
 
 /// The digest of the object whose content is at a place.

@@ -1,4 +1,4 @@
-use Rattle.std.proofs.Common.{◌≡◌, ℕ, ◌+◌, ◌<◌, get_or, Bool, true, false, refl, sym, subst, below_more, arith}
+use Rattle.std.proofs.Common.{◌≡◌, get_or, true, false, refl, sym, subst, below_more, arith}
 use Rattle.cas_model.specs.declared.place.Space.TheVariants.{Objects}
 use Rattle.region_core.specs.Leads.{IsFilledOf}
 use Rattle.region_check.proofs.Loops.{first_reference, no_reference}

@@ -1,4 +1,4 @@
-use Rattle.std.proofs.Common.{◌≡◌, ◌+◌, ◌<◌, ℕ, sym, subst, arith}
+use Rattle.std.proofs.Common.{◌≡◌, ◌+◌, ℕ, sym, subst, arith}
 use Rattle.region_check.specs.Reach.{slots_of}
 use Rattle.region_check.specs.Shown.{LeastWhere, TableShown}
 use Rattle.region_check.proofs.Reaching.{table_inside}

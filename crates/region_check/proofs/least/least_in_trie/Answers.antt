@@ -1,5 +1,5 @@
-use Rattle.std.proofs.Common.{◌≡◌, ◌+◌, ◌<◌, ℕ, length, get_or, refl, sym, subst, arith}
-use Rattle.region_check.specs.Reach.{no_table, table_of}
+use Rattle.std.proofs.Common.{◌≡◌, ◌+◌, ℕ, length, refl, sym, subst, arith}
+use Rattle.region_check.specs.Reach.{table_of}
 use Rattle.region_check.specs.Shown.{LeastWhere, TrieShown}
 use Rattle.region_check.proofs.Lowest.{trie_more}
 use Rattle.region_check.proofs.least.least_in_trie.Goals as goal

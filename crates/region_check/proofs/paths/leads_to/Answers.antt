@@ -1,4 +1,4 @@
-use Rattle.std.proofs.Common.{◌+◌, ◌≤◌, ◌∙◌, sym, arith}
+use Rattle.std.proofs.Common.{sym, arith}
 use Rattle.region_check.proofs.Loops.{walked_on, walked_end}
 use Rattle.region_check.proofs.paths.leads_to.Goals as goal
 

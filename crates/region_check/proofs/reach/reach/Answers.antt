@@ -1,6 +1,5 @@
-use Rattle.std.proofs.Common.{◌≡◌, ◌+◌, ◌<◌, Bool, List, length, arith, sym, ap, subst, ◌∙◌}
-use Rattle.std.proofs.lemmas.List.{get_or_default}
-use Rattle.region_check.specs.Reach.{no_table, table_of, slots_of, IsLed, Entered, Searching}
+use Rattle.std.proofs.Common.{◌+◌, ◌<◌, Bool, List, length, arith, sym, subst}
+use Rattle.region_check.specs.Reach.{slots_of, IsLed, Entered, Searching}
 use Rattle.region_check.proofs.Reaching.{searching_more, searched, table_inside, table_read, lent_back}
 use Rattle.region_check.proofs.reach.reach.Goals as goal
 

@@ -1,4 +1,4 @@
-use Rattle.std.proofs.Common.{◌+◌, ◌<◌, arith}
+use Rattle.std.proofs.Common.{arith}
 use Rattle.region_check.proofs.Reaching.{table_inside}
 use Rattle.region_check.proofs.Roling.{table_more}
 use Rattle.region_check.proofs.roles.add_table.Goals as goal

@@ -1,4 +1,4 @@
-use Rattle.std.proofs.Common.{◌≡◌, ℕ, List, length, sym, subst, arith}
+use Rattle.std.proofs.Common.{◌≡◌, length, sym, subst, arith}
 use Rattle.region_check.specs.Roles.{AreRoles}
 use Rattle.region_check.proofs.Reaching.{lent_back}
 use Rattle.region_check.proofs.roles.roles_of.Goals as goal

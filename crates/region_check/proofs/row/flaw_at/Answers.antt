@@ -1,10 +1,8 @@
-use Rattle.std.proofs.Common.{◌≡◌, ℕ, sym, subst, refl}
-use Rattle.cas_model.specs.declared.place.Space.{Space}
-use Rattle.cas_model.specs.declared.place.Space.TheVariants.{Objects, Actions}
+use Rattle.std.proofs.Common.{◌≡◌, sym, subst}
+use Rattle.cas_model.specs.declared.place.Space.TheVariants.{Actions}
 use Rattle.region_check.specs.declared.row.Row.{Row}
-use Rattle.region_check.specs.declared.row.Row.TheVariants as rows
 use Rattle.region_check.specs.Shown.{LeastWhere, Shown}
-use Rattle.region_check.proofs.Rows.{least_with, ValueShown, owned_shown}
+use Rattle.region_check.proofs.Rows.{least_with, ValueShown}
 use Rattle.region_check.proofs.row.flaw_at.Goals as goal
 
 pub returns-in-Range : goal.returns-in-Range
@@ -14,6 +12,3 @@ pub returns-in-Actions : goal.returns-in-Actions
 returns-in-Actions c =
     subst (λ (r : Row). LeastWhere (λ p. Shown c.args.words.now r c.args.space c.args.level c.args.slot p) c.value_flaw.result) (sym c.in-Value.is)
     (least_with (c.args.space ≡ Actions) (ValueShown c.args.words.now c.args.slot) c.value_flaw.result c.in-Actions.is c.value_flaw.ensures)
-
-pub returns-in-Objects-space : goal.returns-in-Objects-space
-returns-in-Objects-space c = owned_shown c.args.words.now c.args.row c.args.space c.args.level c.args.slot c.owned_flaw.result c.in-Objects-space.is c.owned_flaw.ensures c.in-Length.is

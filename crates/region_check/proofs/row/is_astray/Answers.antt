@@ -1,4 +1,4 @@
-use Rattle.std.proofs.Common.{◌≤◌, arith}
+use Rattle.std.proofs.Common.{arith}
 use Rattle.region_check.proofs.Rows.{no_astray, astray}
 use Rattle.region_check.proofs.row.is_astray.Goals as goal
 

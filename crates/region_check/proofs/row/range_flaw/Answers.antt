@@ -1,4 +1,4 @@
-use Rattle.std.proofs.Common.{◌≡◌, Bool, true, false, inl, inr}
+use Rattle.std.proofs.Common.{◌≡◌, true, false, inl, inr}
 use Rattle.region_check.proofs.row.range_flaw.Goals as goal
 
 pub returns-in-None : goal.returns-in-None

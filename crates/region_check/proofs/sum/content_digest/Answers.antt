@@ -1,4 +1,4 @@
-use Rattle.std.proofs.Common.{◌≡◌, ℕ, ◌+◌, ◌-◌, ◌/◌, ◌%◌, ◌^◌, List, [], length, ◌++◌, take, drop, get_or, subst, sym, ap, ◌∙◌, arith}
+use Rattle.std.proofs.Common.{◌≡◌, ℕ, ◌+◌, ◌-◌, ◌/◌, ◌%◌, ◌^◌, List, [], ◌++◌, take, drop, get_or, ap, ◌∙◌, arith}
 use Rattle.sha2.specs.Sha256.{sha256}
 use Rattle.cas_model.specs.Content.{bytes_of}
 use Rattle.cas_model.specs.Object.{ref_bytes}

@@ -1,4 +1,4 @@
-use Rattle.std.proofs.Common.{ℕ, List, ◌++◌, subst}
+use Rattle.std.proofs.Common.{subst}
 use Rattle.sha2.specs.Hashers.{Holds256}
 use Rattle.region_check.proofs.Summing.{refs_more}
 use Rattle.region_check.proofs.sum.hash_references.Goals as goal

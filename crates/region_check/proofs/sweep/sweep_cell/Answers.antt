@@ -1,4 +1,4 @@
-use Rattle.std.proofs.Common.{◌≡◌, ◌+◌, ◌-◌, ◌<◌, ◌≤◌, ℕ, length, get_or, refl, sym, ap, subst, inl, inr, ◌∙◌, arith}
+use Rattle.std.proofs.Common.{◌≡◌, ◌-◌, ℕ, get_or, refl, subst, inl, arith}
 use Rattle.region_core.specs.Leads.{length_told}
 use Rattle.region_check.specs.Sweep.{BlockMarked}
 use Rattle.region_check.proofs.Sweeping.{cell_reached, content_ends, size_back}

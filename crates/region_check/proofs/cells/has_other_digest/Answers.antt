@@ -3,7 +3,7 @@ use Rattle.cas_model.specs.Object.{object_digest}
 use Rattle.region_core.specs.Leads.{digest_there, object_there}
 use Rattle.region_core.proofs.Reading.{digest_held-there}
 use Rattle.region_check.proofs.Rows.{content_fits, differs}
-use Rattle.region_check.proofs.row.has_other_digest.Goals as goal
+use Rattle.region_check.proofs.cells.has_other_digest.Goals as goal
 
 pub content_digest-found-requires-clause-fits : goal.content_digest-found-requires-clause-fits
 content_digest-found-requires-clause-fits c = content_fits c.args.words.now c.args.owned.owner c.args.owned.place c.requires.none c.requires.reached
