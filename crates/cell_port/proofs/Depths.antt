@@ -1,15 +1,17 @@
 -- How many subtries a digest needs, by the two deepest levels that it shares.
-use Rattle.std.proofs.Common.{◌≡◌, ◌≢◌, ℕ, zero, suc, ◌+◌, ◌-◌, ◌<◌, ◌≤◌, List, [], ◌∷◌, ◌++◌, Bool, true, false, cond, ◌==◌, ◌&&◌, ◌/◌, ◌%◌, ◌⊎◌, inl, inr, nat_eq, nat_lt, slice_index, refl, ap, sym, subst, ◌∙◌, arith, min}
-use Rattle.std.proofs.lemmas.Bool.{ltb-true, ltb-false, eq-eqb, ne_eqb}
+use Rattle.std.proofs.Common.{◌≡◌, ◌≢◌, ℕ, zero, suc, ◌+◌, ◌-◌, ◌<◌, ◌≤◌, List, [], ◌∷◌, Bool, true, false, cond, ◌==◌, ◌&&◌, ◌/◌, ◌%◌, ◌⊎◌, inl, inr, nat_eq, nat_lt, slice_index, refl, ap, sym, subst, ◌∙◌, arith, min}
+use Rattle.std.proofs.lemmas.Bool.{ltb-true, ltb-false, le-ltb, eq-eqb, ne_eqb}
 use Rattle.std.proofs.lemmas.List.Sums.{sum_by-cons}
 use Rattle.std.proofs.lemmas.Bool.Decides.{eqb_tells}
 use Rattle.cas_model.specs.declared.digest.Digest.{Digest}
 use Rattle.cas_model.specs.declared.place.Space.{Space}
+use Rattle.cas_model.specs.declared.place.Space.TheVariants.{Objects, Actions}
 use Rattle.cas_model.specs.declared.tables.Record.{Record}
 use Rattle.cas_model.specs.Tables.{same_space}
 use Rattle.cas_model.specs.Trie.{index_of, nibble, sharing, new_subtries}
 use Rattle.cell_port.specs.declared.subtries.Deepest.{Deepest}
-use Rattle.cell_port.specs.Depth.{shares, shared, shared_level, with_level, deepest_in}
+use Rattle.cell_port.specs.Depth.{shares, shared, shared_level, with_level, no_levels, deepest_of}
+use Rattle.cell_port.specs.Shelves.{shelf_key, on_shelf}
 use Rattle.cell_port.specs.Needed.{bound_in, needed}
 
 index-next : (bytes : List ℕ) (level n : ℕ) → 0 < level → n ≡ level + 1 → index_of bytes level ≡ nibble bytes n
@@ -201,31 +203,71 @@ difference n d ds two counted =
     let most = counted.most in
     (omega arith, falls, most)
 
-counted-rows : (space : Space) (d : Digest) (rows : List Record) → IsCounted 62 d (bound_in space rows) (deepest_in (record { first = 0; second = 0 }) space d rows)
-counted-rows space d [] = counted-none 62 d
-counted-rows space d (r ∷ rs) = step (same_space r.space space) (counted-rows space d rs) where
-  step : (b : Bool) → IsCounted 62 d (bound_in space rs) (deepest_in (record { first = 0; second = 0 }) space d rs)
-      → IsCounted 62 d (cond b (r.digest ∷ bound_in space rs) (bound_in space rs))
-      (cond b (with_level (shared_level r.digest d) (deepest_in (record { first = 0; second = 0 }) space d rs)) (deepest_in (record { first = 0; second = 0 }) space d rs))
-  step true counted = let here = level-cases r.digest d in counted-more 62 (shared_level r.digest d) r.digest d (bound_in space rs) _ here.0 here.1 counted
-  step false counted = counted
+-- ---- the digests of one shelf
 
-pub deepest-append : (so_far : Deepest) (space : Space) (d : Digest) (xs ys : List Record) → deepest_in (deepest_in so_far space d ys) space d xs ≡ deepest_in so_far space d (xs ++ ys)
-deepest-append so_far space d [] ys = refl
-deepest-append so_far space d (x ∷ xs) ys =
-    ap (λ (two : Deepest). cond (same_space x.space space) (with_level (shared_level x.digest d) two) two) (deepest-append so_far space d xs ys)
+-- a level 0 adds nothing
+level-none : (two : Deepest) → with_level 0 two ≡ two
+level-none two = (λ i. cond (no two.first i) (record { first = 0; second = two.first }) (record { first = two.first; second = cond (no two.second i) 0 two.second })) where
+  no : (n : ℕ) → nat_lt n 0 ≡ false
+  no n = le-ltb n 0 (omega arith)
+
+-- digests that begin with different bytes share no level
+apart-first : (e d : Digest) → (slice_index e.bytes 0 ≡ slice_index d.bytes 0 → ⊥) → 0 ≡ shared_level e d
+apart-first e d differ =
+    level-found e d 0 (omega arith) refl
+    (λ some. parts-at e d 0 (slice_index e.bytes 0) (slice_index d.bytes 0) (index-first e.bytes 0 refl) (index-first d.bytes 0 refl) differ)
+
+-- a digest of the space on another shelf begins with another byte
+apart-keys : (space other : Space) (e d : Digest) → same_space other space ≡ true → (shelf_key other e ≡ shelf_key space d → ⊥) → slice_index e.bytes 0 ≡ slice_index d.bytes 0 → ⊥
+apart-keys Objects Objects e d same differ is = differ (omega (arith, is))
+apart-keys Actions Actions e d same differ is = differ (omega (arith, is))
+apart-keys Objects Actions e d same differ is = cc
+apart-keys Actions Objects e d same differ is = cc
+
+-- a digest of the other space is on another shelf
+apart-spaces : (space other : Space) (e d : Digest) → same_space other space ≡ false → shelf_key other e ≡ shelf_key space d → ⊥
+apart-spaces Objects Objects e d differ is = cc
+apart-spaces Actions Actions e d differ is = cc
+apart-spaces Objects Actions e d differ is = omega (arith, is)
+apart-spaces Actions Objects e d differ is = omega (arith, is)
+
+counted-rows : (space : Space) (d : Digest) (rows : List Record) → IsCounted 62 d (bound_in space rows) (deepest_of no_levels d (on_shelf rows (shelf_key space d)))
+counted-rows space d [] = counted-none 62 d
+counted-rows space d (r ∷ rs) = step (same_space r.space space) refl (eqb_tells (shelf_key r.space r.digest) (shelf_key space d)) (counted-rows space d rs) where
+  two : Deepest
+  two = deepest_of no_levels d (on_shelf rs (shelf_key space d))
+
+  more : IsCounted 62 d (bound_in space rs) two → IsCounted 62 d (r.digest ∷ bound_in space rs) (with_level (shared_level r.digest d) two)
+  more counted = let here = level-cases r.digest d in counted-more 62 (shared_level r.digest d) r.digest d (bound_in space rs) two here.0 here.1 counted
+
+  none : (shelf_key r.space r.digest ≡ shelf_key space d → ⊥) → same_space r.space space ≡ true → with_level (shared_level r.digest d) two ≡ two
+  none differ same = ap (λ n. with_level n two) (sym (apart-first r.digest d (apart-keys space r.space r.digest d same differ))) ∙ level-none two
+
+  step : (s : Bool) → same_space r.space space ≡ s
+      → (((shelf_key r.space r.digest == shelf_key space d) ≡ true) × (shelf_key r.space r.digest ≡ shelf_key space d)) ⊎ (((shelf_key r.space r.digest == shelf_key space d) ≡ false) × (shelf_key r.space r.digest ≢ shelf_key space d))
+      → IsCounted 62 d (bound_in space rs) two
+      → IsCounted 62 d (cond s (r.digest ∷ bound_in space rs) (bound_in space rs))
+      (deepest_of no_levels d (cond (shelf_key r.space r.digest == shelf_key space d) (r.digest ∷ on_shelf rs (shelf_key space d)) (on_shelf rs (shelf_key space d))))
+  step true same (inl h) counted =
+      subst (λ b. IsCounted 62 d (r.digest ∷ bound_in space rs) (deepest_of no_levels d (cond b (r.digest ∷ on_shelf rs (shelf_key space d)) (on_shelf rs (shelf_key space d))))) (sym h.0) (more counted)
+  step true same (inr h) counted =
+      subst (λ b. IsCounted 62 d (r.digest ∷ bound_in space rs) (deepest_of no_levels d (cond b (r.digest ∷ on_shelf rs (shelf_key space d)) (on_shelf rs (shelf_key space d))))) (sym h.0)
+      (subst (λ (t : Deepest). IsCounted 62 d (r.digest ∷ bound_in space rs) t) (none h.1 same) (more counted))
+  step false same (inl h) counted = absurd (apart-spaces space r.space r.digest d same h.1)
+  step false same (inr h) counted =
+      subst (λ b. IsCounted 62 d (bound_in space rs) (deepest_of no_levels d (cond b (r.digest ∷ on_shelf rs (shelf_key space d)) (on_shelf rs (shelf_key space d))))) (sym h.0) counted
 
 -- the two deepest levels that a digest shares with those bound in its space tell how many subtries it needs
-pub needed-is : (bound : List Record) (space : Space) (d : Digest) (two : Deepest) → two ≡ deepest_in (record { first = 0; second = 0 }) space d bound
+pub needed-is : (bound : List Record) (space : Space) (d : Digest) (two : Deepest) → two ≡ deepest_of no_levels d (on_shelf bound (shelf_key space d))
     → (two.first - two.second ≡ needed bound space d) × (two.second ≤ two.first) × (two.first ≤ 62)
 unfolding needed
 needed-is bound space d two is =
     subst (λ (t : Deepest). (t.first - t.second ≡ new_subtries (bound_in space bound) d 62) × (t.second ≤ t.first) × (t.first ≤ 62)) (sym is)
-    (difference 62 d (bound_in space bound) (deepest_in (record { first = 0; second = 0 }) space d bound) (counted-rows space d bound))
+    (difference 62 d (bound_in space bound) (deepest_of no_levels d (on_shelf bound (shelf_key space d))) (counted-rows space d bound))
 
 pub needed-most : (bound : List Record) (space : Space) (d : Digest) → needed bound space d ≤ 62
 needed-most bound space d =
-    let h = needed-is bound space d (deepest_in (record { first = 0; second = 0 }) space d bound) refl in
+    let h = needed-is bound space d (deepest_of no_levels d (on_shelf bound (shelf_key space d))) refl in
     let e = h.0 in
     let most = h.2 in
     omega arith

@@ -20,3 +20,4 @@ pub mod HeldContents
 pub mod WrittenHeads
 pub mod OneContent
 pub mod KeptRecord
+pub mod IndexRows

@@ -2,9 +2,6 @@
 use Rattle.std.specs.Prelude.{ℕ, zero, suc, List, [], ◌∷◌, Bool, cond, nat_lt, nat_eq}
 use Rattle.std.specs.Cmp.Lexicographic.{pointwise}
 use Rattle.cas_model.specs.declared.digest.Digest.{Digest}
-use Rattle.cas_model.specs.declared.place.Space.{Space}
-use Rattle.cas_model.specs.declared.tables.Record.{Record}
-use Rattle.cas_model.specs.Tables.{same_space}
 use Rattle.cas_model.specs.Trie.{path}
 use Rattle.cell_port.specs.declared.subtries.Deepest.{Deepest}
 
@@ -25,12 +22,11 @@ shared_level e d = shared e d 62
 abbrev pub with_level : ℕ → Deepest → Deepest
 with_level n d = cond (nat_lt d.first n) (record { first = n; second = d.first }) (record { first = d.first; second = cond (nat_lt d.second n) n d.second })
 
+-- of no digests
+abbrev pub no_levels : Deepest
+no_levels = record { first = 0; second = 0 }
+
 -- the greatest two of the levels that digests share with another one
 abbrev pub deepest_of : Deepest → Digest → List Digest → Deepest
 deepest_of so_far d [] = so_far
 deepest_of so_far d (e ∷ es) = with_level (shared_level e d) (deepest_of so_far d es)
-
--- the same, of the rows of a space
-abbrev pub deepest_in : Deepest → Space → Digest → List Record → Deepest
-deepest_in so_far space d [] = so_far
-deepest_in so_far space d (r ∷ rs) = cond (same_space r.space space) (with_level (shared_level r.digest d) (deepest_in so_far space d rs)) (deepest_in so_far space d rs)

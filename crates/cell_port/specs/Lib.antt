@@ -4,6 +4,8 @@ pub mod Calls
 pub mod Tables
 pub mod Needed
 pub mod Depth
+pub mod Shelves
+pub mod Index
 pub mod FilledRows
 pub mod Shown
 pub mod Plain

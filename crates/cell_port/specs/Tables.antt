@@ -24,11 +24,6 @@ as_start r = record { size = r.start.size; counter = r.counter; given = r.counte
 
 -- ---- searches
 
--- the value of the first row of a cell, or another one
-abbrev pub cell_or : List Cell → ℕ → ℕ → ℕ
-cell_or [] n otherwise = otherwise
-cell_or (c ∷ cs) n otherwise = cond (c.of.at == n) c.value (cell_or cs n otherwise)
-
 -- the index of the first open block at a place, or how many open blocks there are
 abbrev pub first_at : List OpenBlock → ℕ → ℕ
 first_at [] place = 0

@@ -1,10 +1,9 @@
 // How deep a digest's way in a trie is shared with those of bound digests.
 ghost use Rattle.std.specs.Prelude.{◌≡◌, ◌≤◌};
-ghost use Rattle.cell_port.specs.Depth.{shared_level, deepest_in};
+ghost use Rattle.cell_port.specs.Depth.{shared_level, deepest_of, no_levels};
 
-use crate::searches::is_same_space;
 use crate::subtries::{Deepest, index_at};
-use cas_model::{Digest, Record, Space};
+use cas_model::Digest;
 use std::collections::VecDeque;
 
 /// The deepest level, at most 62, to which both digests lead by the same indexes.
@@ -19,23 +18,18 @@ pub fn common_level(a: &Digest, b: &Digest) -> u64
     level as u64
 }
 
-/// The greatest two of some levels and of those that a digest shares with the bound ones of a space.
-pub fn deepest(
-    records: &VecDeque<Record>,
-    space: Space,
-    digest: &Digest,
-    so_far: Deepest,
-) -> Deepest
-    ensures { result ≡ deepest_in so_far space digest.now records.now.items }
+/// The greatest two of the levels that a digest shares with others.
+pub fn deepest(digests: &VecDeque<Digest>, digest: &Digest) -> Deepest
+    ensures { result ≡ deepest_of no_levels digest.now digests.now.items }
 {
-    let mut deepest = so_far;
-    let mut i = records.len();
+    let mut deepest = Deepest {
+        first: 0,
+        second: 0,
+    };
+    let mut i = digests.len();
     while i > 0 {
         i -= 1;
-        let r = &records[i];
-        if is_same_space(r.space, space) {
-            deepest = deepest.with_level(common_level(&r.digest, digest));
-        }
+        deepest = deepest.with_level(common_level(&digests[i], digest));
     }
     deepest
 }

@@ -6,7 +6,7 @@ ghost use Rattle.cell_port.specs.FilledRows.{AreBound, AreReadable, AreRows, fil
 ghost use Rattle.cell_port.specs.Shown.{AreBelow, contents_of};
 
 use crate::searches::is_same_space;
-use crate::shown::{Shown, words_at};
+use crate::shown::{ShownList, words_at};
 use crate::tables::PlainTables;
 use cas_history::Event;
 use cas_model::{Cell, Data, Digest, Object, Place, Refs, Space, split_head};
@@ -18,11 +18,11 @@ pub fn objects(
     alloc: Global,
     tables: &PlainTables,
     events: &VecDeque<Event>,
-    shown: &VecDeque<Shown>,
+    shown: &ShownList,
 ) -> Result<Vec<Object>, AllocError>
-    requires below { AreBelow (length events.now.items) shown.now.items }
-    requires rows { AreRows tables.now.bound (contents_of events.now.items shown.now.items tables.now) tables.now.filled }
-    ensures { IfOk result (λ objects. objects.items ≡ reverse (filled_objects tables.now.bound (contents_of events.now.items shown.now.items tables.now) tables.now.filled)) }
+    requires below { AreBelow (length events.now.items) shown.now }
+    requires rows { AreRows tables.now.bound (contents_of events.now.items shown.now tables.now) tables.now.filled }
+    ensures { IfOk result (λ objects. objects.items ≡ reverse (filled_objects tables.now.bound (contents_of events.now.items shown.now tables.now) tables.now.filled)) }
 {
     let mut objects = Vec::new(alloc);
     let mut i = tables.cell_count();
@@ -38,13 +38,13 @@ fn add_object(
     alloc: Global,
     tables: &PlainTables,
     events: &VecDeque<Event>,
-    shown: &VecDeque<Shown>,
+    shown: &ShownList,
     cell: Cell,
     objects: &mut Vec<Object>,
 ) -> Result<(), AllocError>
-    requires below { AreBelow (length events.now.items) shown.now.items }
-    requires readable { AreReadable tables.now.bound (contents_of events.now.items shown.now.items tables.now) (record_at tables.now.bound cell.of.at) cell.value }
-    ensures { OnOk result (objects.new.items ≡ objects.old.items ++ row_object tables.now.bound (contents_of events.now.items shown.now.items tables.now) (record_at tables.now.bound cell.of.at) cell.value) }
+    requires below { AreBelow (length events.now.items) shown.now }
+    requires readable { AreReadable tables.now.bound (contents_of events.now.items shown.now tables.now) (record_at tables.now.bound cell.of.at) cell.value }
+    ensures { OnOk result (objects.new.items ≡ objects.old.items ++ row_object tables.now.bound (contents_of events.now.items shown.now tables.now) (record_at tables.now.bound cell.of.at) cell.value) }
 {
     let Some(record_) = tables.record_at(cell.of) else {
         return Ok(());

@@ -7,7 +7,7 @@ ghost use Rattle.cell_port.specs.Needed.{needed};
 ghost use Rattle.cell_port.specs.Plain.{BindsNew, BindIsRefused, BindStays, bind_claims, rows_filled};
 ghost use Rattle.cell_port.specs.Shown.{shown_more};
 
-use crate::shown::Shown;
+use crate::shown::{Shown, ShownList};
 use crate::tables::PlainTables;
 use crate::{Filled, PortError};
 use cas_history::{Act, Event};
@@ -93,7 +93,7 @@ fn add_claims(events: &mut VecDeque<Event>, note: Note, subtries: u64)
 pub fn publish(
     tables: &mut PlainTables,
     events: &mut VecDeque<Event>,
-    shown: &mut VecDeque<Shown>,
+    shown: &mut ShownList,
     note: Note,
     of: Place,
     value: u64,
@@ -102,19 +102,17 @@ pub fn publish(
     ensures answer { IfOk result (λ filled. filled ≡ filled_as (cell_of tables.old.filled of.at) value) }
     ensures rows { OnOk result (tables.new ≡ rows_filled (cell_of tables.old.filled of.at) tables.old of value []) }
     ensures events { OnOk result (events.new.items ≡ event_of note (Act.Fill of value words) ∷ events.old.items) }
-    ensures shown { OnOk result (shown.new.items ≡ shown_more (cell_of tables.old.filled of.at) value (length events.old.items) shown.old.items) }
+    ensures shown { OnOk result (shown.new ≡ shown_more (cell_of tables.old.filled of.at) value (length events.old.items) shown.old) }
     ensures err_rows { OnErr result (tables.new ≡ tables.old) }
     ensures err_events { OnErr result (events.new.items ≡ events.old.items) }
-    ensures err_shown { OnErr result (shown.new.items ≡ shown.old.items) }
+    ensures err_shown { OnErr result (shown.new ≡ shown.old) }
 {
     events.reserve(1)?;
-    shown.reserve(1)?;
     let had = tables.cell_of(of);
     let before = events.len();
     if had == 0 {
-        tables.fill(of, value)?;
         let place = value;
-        shown.push_front_reserved(Shown { place, before });
+        shown.fill(tables, of, Shown { place, before })?;
         let act = Act::Fill(of, value, words);
         events.push_front_reserved(Event { note, act });
         return Ok(Filled::Won(value));

@@ -42,7 +42,7 @@ pub fn store_contents(
     ensures ok { IfOk result (λ tables. PutsPairs size contents.now.objects.items contents.now.actions.items (length contents.now.actions.items) tables) }
     ensures err { IfErr result (Refuses size 520 (contents_claims contents.now.objects.items contents.now.actions.items)) }
 {
-    let mut tables = PlainTables::new(alloc, size);
+    let mut tables = PlainTables::new(alloc, size)?;
     for i in 0..contents.objects.len() {
         store_object(alloc, &mut tables, &contents.objects[i])?;
     }

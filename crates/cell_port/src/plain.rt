@@ -1,4 +1,4 @@
-// A port of one owner over plain lists.
+// A port of one owner over plain lists, with maps that find their rows.
 ghost use Rattle.std.specs.Prelude.{◌≡◌, ◌≤◌, ◌+◌, ◌*◌, ◌<◌, [], ◌∷◌, Some, None, false, IfOk, IfErr, OnOk, MatchResult};
 ghost use Rattle.cas_model.specs.Contents.{AreLawfulContents};
 ghost use Rattle.cas_model.specs.Tables.{empty_start};
@@ -17,7 +17,7 @@ use crate::moves::{bind_new, fill_cell, publish};
 use crate::pairs::pairs;
 use crate::parts::store_contents;
 use crate::searches::{take_open, write_open};
-use crate::shown::{Shown, words_at};
+use crate::shown::{ShownList, words_at};
 use crate::tables::PlainTables;
 use crate::{Block, Bound, CellPort, Filled, OpenBlock, PortError, Steps, Written};
 use cas_history::{Act, Event};
@@ -27,9 +27,9 @@ use std::collections::VecDeque;
 use std::marker::Model;
 use std::sync::ledger::Ledger;
 
-/// A region of one owner, as plain lists, with the events that it has seen: the slow twin of every other port. It
-/// speaks for every session, its calls may want memory, and its `bind` answers the level 0. It keeps a reference to
-/// its upstream, or has none.
+/// A region of one owner, as plain lists and maps that find their rows, with the events that it has seen. It speaks for
+/// every session, its calls may want memory, and its `bind` answers the level 0. It keeps a reference to its upstream, or
+/// has none.
 #[derive(Drop)]
 pub struct PlainPort<'u, U: Upstream> {
     alloc: Global,
@@ -40,7 +40,7 @@ pub struct PlainPort<'u, U: Upstream> {
     // The newest first. It alone has the words that were published since the start.
     events: VecDeque<Event>,
     // What was published since the start, the newest first.
-    shown: VecDeque<Shown>,
+    shown: ShownList,
 }
 
 impl<'u, U: Upstream> Model for PlainPort<'u, U> {
@@ -51,7 +51,7 @@ impl<'u, U: Upstream> Model for PlainPort<'u, U> {
 
     ghost view = { λ p. record { up = option_copied p.up; start = p.tables.start; seen = p.events.items; opened = p.opened.items } };
 
-    ghost invariant = { λ p. Keeps (upstream_of U.state (option_copied p.up)) p.tables p.opened.items p.events.items p.shown.items };
+    ghost invariant = { λ p. Keeps (upstream_of U.state (option_copied p.up)) p.tables p.opened.items p.events.items p.shown };
 }
 
 impl<'u> PlainPort<'u, NoUpstream> {
@@ -67,10 +67,10 @@ impl<'u> PlainPort<'u, NoUpstream> {
         Ok(PlainPort {
             alloc,
             up: None,
-            tables: PlainTables::new(alloc, size),
+            tables: PlainTables::new(alloc, size)?,
             opened: VecDeque::new(alloc),
             events: VecDeque::new(alloc),
-            shown: VecDeque::new(alloc),
+            shown: ShownList::new(alloc),
         })
     }
 }
@@ -101,7 +101,7 @@ impl<'u> PlainPort<'u, NoUpstream> {
             tables: tables.settled(),
             opened: VecDeque::new(alloc),
             events: VecDeque::new(alloc),
-            shown: VecDeque::new(alloc),
+            shown: ShownList::new(alloc),
         })
     }
 }

@@ -1,11 +1,11 @@
 // Searches in lists of rows, and in the open blocks of a port.
 ghost use Rattle.std.specs.Prelude.{◌≡◌, ◌<◌, ◌↔◌, length, IfOk, IfSome, IsSome, option_copied};
-ghost use Rattle.cas_model.specs.Tables.{place_of, record_at, words_at, same_space, same_digest};
+ghost use Rattle.cas_model.specs.Tables.{words_at, same_space};
 ghost use Rattle.cell_port.specs.View.{open_words, write_word, close_block};
-ghost use Rattle.cell_port.specs.Tables.{cell_or, first_at};
+ghost use Rattle.cell_port.specs.Tables.{first_at};
 
 use crate::OpenBlock;
-use cas_model::{Cell, Content, Digest, Place, Record, Space};
+use cas_model::{Content, Space};
 use std::collections::VecDeque;
 
 pub fn is_same_space(a: Space, b: Space) -> bool
@@ -17,51 +17,6 @@ pub fn is_same_space(a: Space, b: Space) -> bool
         (Space::Objects, Space::Actions) => false,
         (Space::Actions, Space::Objects) => false,
     }
-}
-
-pub fn is_same_digest(a: &Digest, b: &Digest) -> bool
-    ensures { result ≡ same_digest a.now b.now }
-{
-    a.bytes == b.bytes
-}
-
-/// The place to which the first row binds a digest.
-pub fn find_place(records: &VecDeque<Record>, space: Space, digest: &Digest) -> Option<Place>
-    ensures { result ≡ place_of records.now.items space digest.now }
-{
-    for i in 0..records.len() {
-        let r = &records[i];
-        if is_same_space(r.space, space) && is_same_digest(&r.digest, digest) {
-            return Some(r.place);
-        }
-    }
-    None
-}
-
-/// The first row of the record at a place.
-pub fn find_record(records: &VecDeque<Record>, place: Place) -> Option<Record>
-    ensures { result ≡ record_at records.now.items place.at }
-{
-    for i in 0..records.len() {
-        let r = &records[i];
-        if r.place.at == place.at {
-            return Some(*r);
-        }
-    }
-    None
-}
-
-/// The value that the first row of a cell has, or another one where there is no row.
-pub fn cell_value(cells: &VecDeque<Cell>, of: Place, otherwise: u64) -> u64
-    ensures { result ≡ cell_or cells.now.items of.at otherwise }
-{
-    for i in 0..cells.len() {
-        let c = &cells[i];
-        if c.of.at == of.at {
-            return c.value;
-        }
-    }
-    otherwise
 }
 
 /// The words of the first content at a place.

@@ -1,19 +1,20 @@
 // The rows that a plain port keeps.
-ghost use Rattle.std.specs.Prelude.{◌≡◌, ◌+◌, ◌<◌, ◌≤◌, [], ◌∷◌, length, slice_get, Some, option_copied, OnOk, OnErr};
+ghost use Rattle.std.specs.Prelude.{◌≡◌, ◌+◌, ◌<◌, ◌≤◌, [], ◌∷◌, length, slice_get, None, Some, option_copied, IfOk, OnOk, OnErr};
 ghost use Rattle.cas_model.specs.Tables.{place_of, record_at, cell_of, words_at, empty_start};
 ghost use Rattle.cell_port.specs.Needed.{needed};
 ghost use Rattle.cell_port.specs.Tables.{empty_rows, as_start};
 
-use crate::depth::deepest;
-use crate::searches::{cell_value, find_place, find_record, find_words};
-use crate::subtries::Deepest;
+use crate::index::Index;
+use crate::searches::find_words;
+use crate::shelves::Shelves;
 use cas_model::{Cell, Content, Digest, Place, Record, Space, Words};
 use std::alloc::{AllocError, Global};
-use std::collections::VecDeque;
+use std::collections::{BTreeMap, VecDeque};
 use std::marker::Model;
 
 /// The tables of a region as plain lists, each with the newest row first: the rows of the start, and those that came
-/// after it. The contents that a run publishes have no rows: their words are in the run's events.
+/// after it. The contents that a run publishes have no rows: their words are in the run's events. Beside the lists are maps
+/// that find a bound digest, a record and a filled cell, and the bound digests on shelves, for the subtries of a new one.
 #[derive(Drop)]
 pub struct PlainTables {
     size: u64,
@@ -25,10 +26,16 @@ pub struct PlainTables {
     records: VecDeque<Record>,
     cells: VecDeque<Cell>,
     contents: VecDeque<Content>,
+    index: Index,
+    shelves: Shelves,
+    // The value of each filled cell, by the place of its record.
+    values: BTreeMap<u64, u64>,
 }
 
 impl Model for PlainTables {
     ghost use Rattle.std.specs.Prelude.{◌≤◌, ◌++◌, []};
+    ghost use Rattle.cell_port.specs.Index.{IndexesBound, IndexesCells};
+    ghost use Rattle.cell_port.specs.Shelves.{HasShelves};
     ghost use Rattle.cell_port.specs.Tables.{PlainRows};
 
     ghost Value = { PlainRows };
@@ -41,17 +48,17 @@ impl Model for PlainTables {
       blocks = t.contents.items ++ t.old_contents.items;
     } };
 
-    ghost invariant = { λ t. (t.counter ≤ t.size) × (t.size ≤ 67108864) };
+    ghost invariant = { λ t. (t.counter ≤ t.size) × (t.size ≤ 67108864) × IndexesBound t.index (t.records.items ++ t.old_records.items) × HasShelves t.shelves (t.records.items ++ t.old_records.items) × IndexesCells t.values (t.cells.items ++ t.old_cells.items) };
 }
 
 impl PlainTables {
     /// The tables of a region of so many words in which nothing is stored.
-    pub fn new(alloc: Global, size: u64) -> PlainTables
+    pub fn new(alloc: Global, size: u64) -> Result<PlainTables, AllocError>
         requires least { 4096 ≤ size }
         requires most { size ≤ 67108864 }
-        ensures { result ≡ empty_rows size }
+        ensures { IfOk result (λ tables. tables ≡ empty_rows size) }
     {
-        PlainTables {
+        Ok(PlainTables {
             size,
             began: 520,
             counter: 520,
@@ -61,7 +68,10 @@ impl PlainTables {
             records: VecDeque::new(alloc),
             cells: VecDeque::new(alloc),
             contents: VecDeque::new(alloc),
-        }
+            index: Index::new(alloc),
+            shelves: Shelves::new(alloc)?,
+            values: BTreeMap::new(alloc),
+        })
     }
 
     pub fn size(&self) -> u64
@@ -82,27 +92,24 @@ impl PlainTables {
     pub fn place_of(&self, space: Space, digest: &Digest) -> Option<Place>
         ensures { result ≡ place_of self.now.bound space digest.now }
     {
-        match find_place(&self.records, space, digest) {
-            Some(place) => Some(place),
-            None => find_place(&self.old_records, space, digest),
-        }
+        self.index.place_of(space, digest)
     }
 
     /// The record at a place.
     pub fn record_at(&self, place: Place) -> Option<Record>
         ensures { result ≡ record_at self.now.bound place.at }
     {
-        match find_record(&self.records, place) {
-            Some(record_) => Some(record_),
-            None => find_record(&self.old_records, place),
-        }
+        self.index.record_at(place)
     }
 
     /// The value of the cell of the record at a place.
     pub fn cell_of(&self, place: Place) -> u64
         ensures { result ≡ cell_of self.now.filled place.at }
     {
-        cell_value(&self.cells, place, cell_value(&self.old_cells, place, 0))
+        match self.values.get(&place.at) {
+            Some(value) => *value,
+            None => 0,
+        }
     }
 
     /// The words of the content at a place.
@@ -138,13 +145,8 @@ impl PlainTables {
         ensures count { result ≡ needed self.now.bound space digest.now }
         ensures most { result ≤ 62 }
     {
-        let none = Deepest {
-            first: 0,
-            second: 0,
-        };
-        let before = deepest(&self.old_records, space, digest, none);
-        let all = deepest(&self.records, space, digest, before);
-        all.first - all.second
+        let two = self.shelves.deepest(space, digest);
+        two.first - two.second
     }
 
     /// Moves the counter.
@@ -155,12 +157,19 @@ impl PlainTables {
         self.counter += words;
     }
 
-    /// Binds a digest.
+    /// Binds an unbound digest.
     pub fn bind(&mut self, record_: Record) -> Result<(), AllocError>
+        requires { place_of self.old.bound record_.space record_.digest ≡ None }
         ensures ok { OnOk result (self.new ≡ record self.old { bound = record_ ∷ self.old.bound }) }
         ensures err { OnErr result (self.new ≡ self.old) }
     {
-        self.records.push_front(record_)?;
+        self.records.reserve(1)?;
+        self.shelves.add(&record_)?;
+        if self.index.bind(record_).is_err() {
+            self.shelves.take_newest(&record_);
+            return Err(AllocError);
+        }
+        self.records.push_front_reserved(record_);
         Ok(())
     }
 
@@ -174,6 +183,7 @@ impl PlainTables {
     {
         self.cells.reserve(1)?;
         self.contents.reserve(1)?;
+        self.values.insert(of.at, value)?;
         self.cells.push_front_reserved(Cell { of, value });
         self.contents.push_front_reserved(Content {
             place: value,
@@ -187,7 +197,9 @@ impl PlainTables {
         ensures ok { OnOk result (self.new ≡ record self.old { filled = (record { of = of; value = value }) ∷ self.old.filled }) }
         ensures err { OnErr result (self.new ≡ self.old) }
     {
-        self.cells.push_front(Cell { of, value })?;
+        self.cells.reserve(1)?;
+        self.values.insert(of.at, value)?;
+        self.cells.push_front_reserved(Cell { of, value });
         Ok(())
     }
 
@@ -206,6 +218,9 @@ impl PlainTables {
             records,
             cells,
             contents,
+            index,
+            shelves,
+            values,
         } = self;
         PlainTables {
             size,
@@ -217,6 +232,9 @@ impl PlainTables {
             records: no_records,
             cells: no_cells,
             contents: no_contents,
+            index,
+            shelves,
+            values,
         }
     }
 }

@@ -14,7 +14,7 @@ loop-i-preserved c =
     let within = c.loop-i.invariant.0 in
     let next : c.loop-i.i ≡ c.loop-i.i - 1 + 1 = omega (arith, c.loop-i-test.true) in
     let b = c.args.tables.now.bound in
-    let k = contents_of c.args.events.now.items c.args.shown.now.items c.args.tables.now in (
+    let k = contents_of c.args.events.now.items c.args.shown.now c.args.tables.now in (
       omega arith,
       c.in_ok-add_object.ensures
           ∙ ap (λ (os : List Object). os ++ row_object b k (record_at b c.cell.result.of.at) c.cell.result.value)

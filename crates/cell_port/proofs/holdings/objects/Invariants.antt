@@ -4,7 +4,7 @@ use Rattle.cell_port.specs.Shown.{contents_of}
 use Rattle.cell_port.proofs.holdings.objects.Given as goal
 
 abbrev pub invariant-loop-i : goal.invariant-loop-i
-invariant-loop-i l = (l.i ≤ length l.tables.filled) × (l.objects.items ≡ reverse (filled_objects l.tables.bound (contents_of l.events.items l.shown.items l.tables) (drop l.i l.tables.filled)))
+invariant-loop-i l = (l.i ≤ length l.tables.filled) × (l.objects.items ≡ reverse (filled_objects l.tables.bound (contents_of l.events.items l.shown l.tables) (drop l.i l.tables.filled)))
 
 abbrev pub decreases-loop-i : goal.decreases-loop-i
 decreases-loop-i l = l.i

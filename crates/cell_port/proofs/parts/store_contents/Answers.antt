@@ -4,17 +4,18 @@ use Rattle.cell_port.proofs.PlainBinds.{err-made}
 use Rattle.cell_port.proofs.parts.store_contents.Goals as goal
 
 pub loop-i-init : goal.loop-i-init
-loop-i-init c = rw c.new-tables.ensures (stores-none c.args.size _ _ c.requires.least c.requires.most c.requires.lawful)
+loop-i-init c = rw c.in_ok-tables.ensures (stores-none c.args.size _ _ c.requires.least c.requires.most c.requires.lawful)
 
-pub store_object-requires-clause-unbound : goal.store_object-requires-clause-unbound
-store_object-requires-clause-unbound c =
+pub store_object-requires : goal.store_object-requires
+store_object-requires c =
     let lt : c.loop-i.i < length c.args.contents.now.objects.items = omega (arith, c.loop-i-test.true) in
-    (is-next _ _ _ _ c.loop-i.invariant c.index.result.now lt c.index.ensures).unbound
+    let next = is-next _ _ _ _ c.loop-i.invariant c.index.result.now lt c.index.ensures in
+    record { few_refs = next.few_refs; short = next.short; unbound = next.unbound }
 
 pub returns-in_err-store_object-clause-err : goal.returns-in_err-store_object-clause-err
 returns-in_err-store_object-clause-err c =
     let lt : c.loop-i.i < length c.args.contents.now.objects.items = omega (arith, c.loop-i-test.true) in
-    err-made _ _ _ c.from_residual.ensures.1 (object-refuses _ _ _ _ c.loop-i.invariant c.index.result.now lt c.index.ensures _ _ c.in_err-store_object.ensures.err)
+    err-made _ _ _ c.from_residual-in_err-store_object.ensures.1 (object-refuses _ _ _ _ c.loop-i.invariant c.index.result.now lt c.index.ensures _ _ c.in_err-store_object.ensures.err)
 
 pub loop-i-preserved : goal.loop-i-preserved
 loop-i-preserved c =
