@@ -1,10 +1,14 @@
 -- Where nothing fails, a run has one of few answers.
-use Rattle.std.proofs.Common.{◌≡◌, ℕ, ◌≤◌, ◌⊎◌, inl, inr, List, Some, None, Err, refl, ap, sym, subst, ◌∙◌, arith}
+use Rattle.std.proofs.Common.{◌≡◌, ℕ, ◌≤◌, ◌⊎◌, inl, inr, Bool, true, false, cond, List, [], ◌∷◌, slice_get, Some, None, Err, ap, sym, subst, ◌∙◌}
 use Rattle.std.specs.Prelude.{String}
 use Rattle.std.specs.declared.alloc.Global.{Global}
 use Rattle.std.specs.declared.option.Option.{Option}
 use Rattle.std.specs.declared.vec.Vec.{Vec}
 use Rattle.std.specs.FinMap as fin
+use Rattle.cas_model.specs.declared.call.Reply.{Reply}
+use Rattle.cas_model.specs.declared.call.Reply.TheVariants as reply
+use Rattle.cas_model.specs.declared.digest.Digest.{Digest}
+use Rattle.cas_model.specs.Tables.{same_digest}
 use Rattle.cas_outside.specs.Causes.{Rose}
 use Rattle.cas_outside.specs.Folder.{Files, FolderView}
 use Rattle.generations.specs.declared.saving.SaveError.{SaveError}
@@ -16,24 +20,28 @@ use Rattle.image_file.specs.declared.error.ImageError.{ImageError}
 use Rattle.image_file.specs.Image.{RefusesImage, image_bytes}
 use Rattle.image_file.proofs.ImageLemmas.{lawful-read}
 use Rattle.sessions.specs.declared.replies.Replies.{Replies}
+use Rattle.sessions.specs.declared.script.Line.{Line}
 use Rattle.sessions.specs.declared.script.Script.{Script}
+use Rattle.sessions.specs.declared.script.Session.{Session}
+use Rattle.sessions.specs.Parsing.{session_of}
+use Rattle.sessions.specs.Single.{call_line}
 use Rattle.cas_tool.specs.declared.answer.Answer.{Answer}
 use Rattle.cas_tool.specs.declared.answer.Answer.TheVariants.{Done, Missing, Usage, ReadFault, WriteFault, FolderFault, Damaged, Full, Poisoned, Dangling, BadScript, Held, TooLarge, NoMemory}
 use Rattle.cas_tool.specs.declared.answer.Large.TheVariants.{Data, References, Script as ScriptBytes}
-use Rattle.cas_tool.specs.declared.command.Request.{Request}
+use Rattle.cas_tool.specs.declared.command.Command.{Command}
+use Rattle.cas_tool.specs.declared.command.Command.TheVariants.{Make, CatNodeData, LsNodeRefs, PutCacheKey, GetCacheResult}
 use Rattle.cas_tool.specs.declared.command.Task.{Task}
 use Rattle.cas_tool.specs.declared.command.Task.TheVariants.{Once, Batch, Workload, Validate}
 use Rattle.cas_tool.specs.declared.front.Front.{Front}
 use Rattle.cas_tool.specs.declared.output.Output.{Output}
 use Rattle.cas_tool.specs.declared.output.Output.TheVariants.{Denied}
 use Rattle.cas_tool.specs.declared.work.Report.{Report}
-use Rattle.cas_tool.specs.declared.work.Report.TheVariants as report
 use Rattle.cas_tool.specs.declared.work.Work.{Work}
 use Rattle.cas_tool.specs.Complete.{AnswersTask, IsQuiet, IsCompleteRun, IsReadable, MayAnswer}
 use Rattle.cas_tool.specs.Front.{closed_of}
-use Rattle.cas_tool.specs.Opening.{OpenCause, OpeningStops}
-use Rattle.cas_tool.specs.Output.{Reports}
-use Rattle.cas_tool.specs.Run.{Because, Outside, Prepares, Refuses, SavingStops, World, WordsRefused, save_answer}
+use Rattle.cas_tool.specs.Opening.{OpenCause}
+use Rattle.cas_tool.specs.Output.{IsOutputOfOne, Reports, call_of, refusal_of, shown_by}
+use Rattle.cas_tool.specs.Run.{Because, Prepares, Refuses, SavingStops, World, WordsRefused, save_answer}
 use Rattle.cas_tool.specs.Work.{IsWork, Source, TaskStops}
 use Rattle.cas_tool.proofs.FolderLemmas.{rose-since}
 use Rattle.cas_tool.proofs.RunLemmas.{IsOfReply, prepares-denied}
@@ -69,7 +77,7 @@ stops-may (Once command) before after (Poisoned wanted kept) quiet h = absurd h
 stops-may (Once command) before after (Dangling index digest) quiet h = absurd h
 stops-may (Once command) before after (BadScript line kind) quiet h = absurd h
 stops-may (Once command) before after Held quiet h = absurd h
-stops-may (Once command) before after (TooLarge Data number) quiet h = tt
+stops-may (Once command) before after (TooLarge Data number) quiet h = subst (λ (c : Command). MayAnswer (Once c) (TooLarge Data number)) (sym h.makes) tt
 stops-may (Once command) before after (TooLarge References number) quiet h = absurd h
 stops-may (Once command) before after (TooLarge ScriptBytes number) quiet h = absurd h
 stops-may (Once command) before after NoMemory quiet h = tt
@@ -132,25 +140,43 @@ saves-may task number due old between new given quiet later stops = by-error sto
 
 -- ---- answers in place of a text
 
+-- what a reply to a command's call gives
+gives-may : (command : Command) (own given : Answer) → MayAnswer (Once command) own → Some own ≡ Some given → MayAnswer (Once command) given
+gives-may command own given may is = let same : own ≡ given = cc is in subst (MayAnswer (Once command)) same may
+
+put-may : (key value kept : Digest) (test : Bool) (given : Answer) → cond test None (Some (Poisoned value kept)) ≡ Some given → MayAnswer (Once (PutCacheKey key value)) given
+put-may key value kept true given is = cc is
+put-may key value kept false given is = gives-may (PutCacheKey key value) (Poisoned value kept) given tt is
+
+refused-may-be : (command : Command) (bytes : List ℕ) (its : Reply) (given : Answer) → refusal_of (call_line (call_of command bytes)) its ≡ Some given → MayAnswer (Once command) given
+refused-may-be (Make refs) bytes (reply.Full a b c) given is = gives-may (Make refs) (Full (record { at = a; asked = b; size = c })) given tt is
+refused-may-be (Make refs) bytes (reply.Dangling i d) given is = gives-may (Make refs) (Dangling i d) given tt is
+refused-may-be (CatNodeData digest) bytes (reply.Full a b c) given is = gives-may (CatNodeData digest) (Full (record { at = a; asked = b; size = c })) given tt is
+refused-may-be (CatNodeData digest) bytes reply.Missing given is = gives-may (CatNodeData digest) (Missing digest) given tt is
+refused-may-be (LsNodeRefs digest) bytes (reply.Full a b c) given is = gives-may (LsNodeRefs digest) (Full (record { at = a; asked = b; size = c })) given tt is
+refused-may-be (LsNodeRefs digest) bytes reply.Missing given is = gives-may (LsNodeRefs digest) (Missing digest) given tt is
+refused-may-be (PutCacheKey key value) bytes (reply.Full a b c) given is = gives-may (PutCacheKey key value) (Full (record { at = a; asked = b; size = c })) given tt is
+refused-may-be (PutCacheKey key value) bytes (reply.Kept kept) given is = put-may key value kept (same_digest value kept) given is
+refused-may-be (PutCacheKey key value) bytes (reply.Dangling i d) given is = gives-may (PutCacheKey key value) (Dangling i d) given tt is
+refused-may-be (GetCacheResult key) bytes (reply.Full a b c) given is = gives-may (GetCacheResult key) (Full (record { at = a; asked = b; size = c })) given tt is
+refused-may-be (GetCacheResult key) bytes reply.Miss given is = gives-may (GetCacheResult key) (Missing key) given tt is
+refused-may-be command bytes its given is = cc is
+
+one-line : (a b : Line) → session_of (a ∷ []) ∷ [] ≡ session_of (b ∷ []) ∷ [] → a ≡ b
+one-line a b h =
+    let sessions : Some (session_of (a ∷ [])) ≡ Some (session_of (b ∷ [])) = ap (λ (xs : List Session). slice_get xs 0) h in
+    let session : session_of (a ∷ []) ≡ session_of (b ∷ []) = cc sessions in
+    let lines : a ∷ [] ≡ b ∷ [] = ap (λ (x : Session). x.lines) session in
+    cc lines
+
 -- they come of a task with one call alone
 denied-may : (task : Task) (before after : Source) (work : Work) (replies : Replies) (objects actions : ℕ) (given : Answer) → IsWork task before after work → IsOfReply given
     → Reports work.report work.script replies objects actions (Denied given) → MayAnswer task given
-denied-may (Once command) before after work replies objects actions given is_work of h = one given of where
-  one : (own : Answer) → IsOfReply own → MayAnswer (Once command) own
-  one Done own = absurd own
-  one (Missing digest) own = tt
-  one (Usage kind) own = absurd own
-  one ReadFault own = absurd own
-  one WriteFault own = absurd own
-  one FolderFault own = absurd own
-  one (Damaged name error) own = absurd own
-  one (Full full) own = tt
-  one (Poisoned wanted kept) own = tt
-  one (Dangling index digest) own = tt
-  one (BadScript line kind) own = absurd own
-  one Held own = absurd own
-  one (TooLarge what number) own = absurd own
-  one NoMemory own = absurd own
+denied-may (Once command) before after work replies objects actions given is_work of h =
+    let out : IsOutputOfOne (shown_by command) work.script replies (Denied given) =
+    subst (λ (r : Report). Reports r work.script replies objects actions (Denied given)) is_work.report_is h in
+    let same = one-line (call_line (call_of command is_work.bytes)) out.line (sym (ap (λ (s : Script). s.sessions) is_work.script_is) ∙ out.script_is) in
+    refused-may-be command is_work.bytes out.reply given (subst (λ (l : Line). refusal_of l out.reply ≡ Some given) (sym same) out.gives)
 denied-may Batch before after work replies objects actions given is_work of h =
     absurd (subst (λ (r : Report). Reports r work.script replies objects actions (Denied given)) is_work.report_is h)
 denied-may (Workload rounds) before after work replies objects actions given is_work of h =

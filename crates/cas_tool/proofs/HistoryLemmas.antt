@@ -1,5 +1,5 @@
 -- The sessions of a script: their one legal history, from the state that was opened.
-use Rattle.std.proofs.Common.{◌≡◌, ℕ, zero, suc, ◌<◌, ◌≤◌, ◌==◌, Bool, true, false, cond, ◌⊎◌, inl, inr, List, [], ◌∷◌, ◌++◌, length, slice_get, IfOk, Ok, Err, Some, None, refl, ap, sym, subst, ◌∙◌, append-nil, arith}
+use Rattle.std.proofs.Common.{◌≡◌, ℕ, zero, suc, ◌<◌, ◌≤◌, ◌==◌, Bool, true, false, cond, ◌⊎◌, inl, inr, List, [], ◌∷◌, ◌++◌, length, slice_get, Some, None, refl, ap, sym, subst, ◌∙◌, append-nil, arith}
 use Rattle.std.specs.declared.option.Option.{Option}
 use Rattle.std.specs.Option.{option_or}
 use Rattle.std.specs.FinMap as fin
@@ -73,7 +73,7 @@ past-conduct start calls count session [] past own = tt
 past-conduct start calls count session (e ∷ es) past own =
     (past-conduct start calls count session es past own.1, λ (same : e.note.who.session ≡ session). let below = own.0 in absurd (omega (arith, below, same, past)))
 
-below-or-past : (n m : ℕ) → (n < m) ⊎ (m ≤ n)
+pub below-or-past : (n m : ℕ) → (n < m) ⊎ (m ≤ n)
 below-or-past n zero = inr (omega arith)
 below-or-past zero (suc m) = inl (omega arith)
 below-or-past (suc n) (suc m) = elim (below-or-past n m) [ inl lt ↦ inl (omega (arith, lt)) | inr le ↦ inr (omega (arith, le)) ]

@@ -10,3 +10,7 @@ pub mod RunLemmas
 pub mod FolderLemmas
 pub mod MadeLemmas
 pub mod CompleteLemmas
+pub mod RoomLemmas
+pub mod ShownLemmas
+pub mod RoomyLemmas
+pub mod HeadlineLemmas

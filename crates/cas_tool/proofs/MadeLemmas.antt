@@ -1,5 +1,5 @@
 -- What a run made, from what its port holds.
-use Rattle.std.proofs.Common.{◌≡◌, ℕ, List, length, IfOk, Ok, Err, Some, refl, ap, sym, subst, ◌∙◌}
+use Rattle.std.proofs.Common.{◌≡◌, ◌≤◌, ℕ, List, length, IfOk, Ok, Err, Some, ap, sym, subst, ◌∙◌}
 use Rattle.std.specs.declared.alloc.AllocError.{AllocError}
 use Rattle.std.specs.declared.result.Result.{Result}
 use Rattle.std.specs.FinMap as fin
@@ -56,15 +56,15 @@ run-to opened work replies start seen objects actions made answers holds reports
 -- what was made, as the front shows it
 pub made-shown :
     (opened : FrozenSeen) (work : Work) (front : Front) (events : EventsValue) (start : Tables) (seen : List Event) (result : Result Made AllocError)
-    → front_run front ≡ Some (run_of opened work.script events) → events.start ≡ start → events.seen ≡ seen → start.size ≡ opened.tables.size
+    → front_run front ≡ Some (run_of opened work.script events) → events.start ≡ start → events.seen ≡ seen → start.size ≡ opened.tables.size → start.counter ≤ opened.tables.counter
     → IfOk result (λ made. HasRunTo opened work start seen made) → IfOk result (λ made. HasMade opened work front made)
-made-shown opened work front events start seen (Err error) is same-start same-seen size h = tt
-made-shown opened work front events start seen (Ok made) is same-start same-seen size h =
+made-shown opened work front events start seen (Err error) is same-start same-seen size counter h = tt
+made-shown opened work front events start seen (Ok made) is same-start same-seen size counter h =
     let to : HasRunTo opened work events.start events.seen made =
     subst (λ (s : Tables). HasRunTo opened work s events.seen made) (sym same-start) (subst (λ (es : List Event). HasRunTo opened work start es made) (sym same-seen) h) in
     record {
       replies = to.replies;
-      answered = record { events = events; is = is; size = ap (λ (s : Tables). s.size) same-start ∙ size; answers = to.answers };
+      answered = record { events = events; is = is; size = ap (λ (s : Tables). s.size) same-start ∙ size; counter = subst (λ (s : Tables). s.counter ≤ opened.tables.counter) (sym same-start) counter; answers = to.answers };
       is = to.is;
     }
 

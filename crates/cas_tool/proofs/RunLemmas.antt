@@ -1,5 +1,5 @@
 -- Which answers come of what, and what words that were read ask for.
-use Rattle.std.proofs.Common.{IfOk, IfErr, Ok, get_or, ◌≡◌, ℕ, ◌<◌, ◌≤◌, ◌⊎◌, inl, inr, List, [], ◌∷◌, length, slice_get, Bool, true, false, cond, Some, None, refl, ap, sym, subst, ◌∙◌, Err, arith}
+use Rattle.std.proofs.Common.{IfOk, IfErr, Ok, get_or, ◌≡◌, ℕ, ◌<◌, ◌≤◌, inl, inr, List, [], ◌∷◌, length, Bool, true, false, cond, Some, None, refl, ap, sym, subst, Err, arith}
 use Rattle.std.specs.Prelude.{String, codes}
 use Rattle.std.specs.String.{string_bytes}
 use Rattle.std.specs.declared.alloc.Global.{Global}
@@ -11,6 +11,7 @@ use Rattle.cas_model.specs.declared.call.Reply.{Reply}
 use Rattle.cas_model.specs.declared.call.Reply.TheVariants.{Stored, Found, Kept, Hit, Miss}
 use Rattle.cas_model.specs.declared.call.Reply.TheVariants as reply
 use Rattle.cas_model.specs.declared.digest.Digest.{Digest}
+use Rattle.cas_model.specs.declared.place.Full.{Full as Refusal}
 use Rattle.cas_model.specs.Tables.{same_digest}
 use Rattle.cas_outside.specs.Folder.{FolderView}
 use Rattle.generations.specs.declared.saving.SaveError.{SaveError}
@@ -29,8 +30,6 @@ use Rattle.cas_tool.specs.declared.command.Task.TheVariants.{Once, Batch, Worklo
 use Rattle.cas_tool.specs.declared.command.Verb.{Verb}
 use Rattle.cas_tool.specs.declared.command.Verb.TheVariants as verb
 use Rattle.cas_tool.specs.declared.command.Command.TheVariants as command
-use Rattle.cas_tool.specs.declared.command.Command.{Command}
-use Rattle.cas_tool.specs.declared.command.Shows.{Shows}
 use Rattle.cas_tool.specs.declared.front.Front.{Front}
 use Rattle.cas_tool.specs.declared.output.Output.{Output}
 use Rattle.cas_tool.specs.declared.output.Output.TheVariants.{Text, Denied}
@@ -42,8 +41,8 @@ use Rattle.cas_tool.specs.Made.{IsOneCall, IsOneCallFor}
 use Rattle.cas_tool.specs.Opening.{OpenCause, OpeningStops}
 use Rattle.cas_tool.specs.Output.{Reports, call_of, refusal_of}
 use Rattle.cas_tool.specs.Run.{Ask, Because, Ends, Outside, Prepares, Refuses, RunPrepares, RunRefuses, SavingStops, ValidatePrepares, ValidateRefuses, WordsRefused, World, save_answer}
-use Rattle.cas_tool.specs.Words.{BeginWith, IsCommand, IsNamedBy, IsSet, dir_of, is_word, task_of, verb_of}
-use Rattle.cas_tool.specs.Work.{IsCommandWithin, IsTaskWithin, IsWork, Source, TaskStops}
+use Rattle.cas_tool.specs.Words.{BeginWith, IsNamedBy, IsSet, dir_of, is_word, task_of, verb_of}
+use Rattle.cas_tool.specs.Work.{IsTaskWithin, IsWork, Source, TaskStops}
 
 -- ---- answers of a reply
 
@@ -178,6 +177,64 @@ never-refused words before after front given end h = elim h [
       | inr check ↦ elim check.refuses [
         | inl opening ↦ never-open _ before.folder after.folder given end opening
         | inr checking ↦ never-memory given end checking.memory
+      ]
+    ]
+  ]
+]
+
+-- and answers of a reply do not come of what stops
+never-of : (P : Answer → Type 0) → ((d : Digest) → P (Missing d) → ⊥) → ((f : Refusal) → P (Full f) → ⊥) → ((d e : Digest) → P (Poisoned d e) → ⊥) → ((i : ℕ) (d : Digest) → P (Dangling i d) → ⊥)
+    → (given : Answer) → IsOfReply given → P given → ⊥
+never-of P missing full poisoned dangling Done of h = of
+never-of P missing full poisoned dangling (Missing digest) of h = missing digest h
+never-of P missing full poisoned dangling (Usage kind) of h = of
+never-of P missing full poisoned dangling ReadFault of h = of
+never-of P missing full poisoned dangling WriteFault of h = of
+never-of P missing full poisoned dangling FolderFault of h = of
+never-of P missing full poisoned dangling (Damaged name error) of h = of
+never-of P missing full poisoned dangling (Full it) of h = full it h
+never-of P missing full poisoned dangling (Poisoned wanted kept) of h = poisoned wanted kept h
+never-of P missing full poisoned dangling (Dangling index digest) of h = dangling index digest h
+never-of P missing full poisoned dangling (BadScript line kind) of h = of
+never-of P missing full poisoned dangling Held of h = of
+never-of P missing full poisoned dangling (TooLarge what number) of h = of
+never-of P missing full poisoned dangling NoMemory of h = of
+
+of-memory : (given : Answer) → IsOfReply given → given ≡ NoMemory → ⊥
+of-memory given of h = never-of (λ (a : Answer). a ≡ NoMemory) (λ d x. cc x) (λ f x. cc x) (λ d e x. cc x) (λ i d x. cc x) given of h
+
+of-words : (words : List (String Global)) (given : Answer) → IsOfReply given → WordsRefused words given → ⊥
+of-words words given of h = never-of (WordsRefused words) (λ d x. x) (λ f x. x) (λ d e x. x) (λ i d x. x) given of h
+
+of-task : (task : Task) (before after : Source) (given : Answer) → IsOfReply given → TaskStops task before after given → ⊥
+of-task (Once command) before after given of h = never-of (TaskStops (Once command) before after) (λ d x. x) (λ f x. x) (λ d e x. x) (λ i d x. x) given of h
+of-task Batch before after given of h = never-of (TaskStops Batch before after) (λ d x. x) (λ f x. x) (λ d e x. x) (λ i d x. x) given of h
+of-task (Workload rounds) before after given of h = of-memory given of h.0
+of-task Validate before after given of h = h
+
+of-open : (old new : FolderView) (given : Answer) → IsOfReply given → OpenCause old new given → ⊥
+of-open old new given of h = never-of (OpenCause old new) (λ d x. x) (λ f x. x) (λ d e x. x) (λ i d x. x) given of h
+
+of-save : (error : SaveError) (given : Answer) → IsOfReply given → given ≡ save_answer error → ⊥
+of-save save.FolderFault given of h = never-of (λ (a : Answer). a ≡ FolderFault) (λ d x. cc x) (λ f x. cc x) (λ d e x. cc x) (λ i d x. cc x) given of h
+of-save save.Memory given of h = of-memory given of h
+
+pub of-refused : (words : List (String Global)) (before after : Outside) (front : Front) (given : Answer) → IsOfReply given → Refuses words before after front given → ⊥
+of-refused words before after front given of h = elim h [
+  | inl stop ↦ of-words words given of stop.why
+  | inr stop ↦ elim stop.is [
+    | inl work ↦ of-task stop.request.task before.source after.source given of work.why
+    | inr more ↦ elim more [
+      | inl task ↦ elim task.refuses [
+        | inl opening ↦ of-open before.folder after.folder given of opening.stops.cause
+        | inr later ↦ elim later [
+          | inl running ↦ of-memory given of running.memory
+          | inr saving ↦ of-save saving.stops.error given of saving.stops.is
+        ]
+      ]
+      | inr check ↦ elim check.refuses [
+        | inl opening ↦ of-open before.folder after.folder given of opening.cause
+        | inr checking ↦ of-memory given of checking.memory
       ]
     ]
   ]

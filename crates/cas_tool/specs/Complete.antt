@@ -1,5 +1,5 @@
 -- What a run answers where nothing fails.
-use Rattle.std.specs.Prelude.{◌≡◌, ℕ, ◌⊎◌, List, None, Some, String}
+use Rattle.std.specs.Prelude.{ℕ, ◌⊎◌, List, None, Some, String}
 use Rattle.std.specs.declared.alloc.Global.{Global}
 use Rattle.std.specs.declared.option.Option.{Option}
 use Rattle.cas_model.specs.State.{State}
@@ -11,9 +11,10 @@ use Rattle.cas_tool.specs.declared.answer.Answer.{Answer}
 use Rattle.cas_tool.specs.declared.answer.Answer.TheVariants.{Done, Missing, Full, Poisoned, Dangling, BadScript, TooLarge, NoMemory}
 use Rattle.cas_tool.specs.declared.answer.Large.TheVariants.{Data, Script}
 use Rattle.cas_tool.specs.declared.command.Command.{Command}
+use Rattle.cas_tool.specs.declared.command.Command.TheVariants.{Make, CatNodeData, LsNodeRefs, PutCacheKey, GetCacheResult}
 use Rattle.cas_tool.specs.declared.command.Request.{Request}
 use Rattle.cas_tool.specs.declared.command.Task.{Task}
-use Rattle.cas_tool.specs.declared.command.Task.TheVariants.{Once, Batch, Workload, Validate}
+use Rattle.cas_tool.specs.declared.command.Task.TheVariants.{Once, Batch}
 use Rattle.cas_tool.specs.Run.{World, WordsRefused}
 use Rattle.cas_tool.specs.Words.{Reads}
 
@@ -29,15 +30,26 @@ abbrev pub IsReadable : Option Files → Type 0
 IsReadable None = ⊥
 IsReadable (Some files) = (number : ℕ) → IsHighestBelow (HasGeneration files) 4294967296 (Some number) → (state : State) × HasState files number state
 
+-- what the one reply of a command's call may give in place of a text: `Full`, where there is no room for the call, and else as the call asks
+abbrev pub MayRefuse : Command → Answer → Type 0
+MayRefuse command (Full full) = Unit {0}
+MayRefuse (Make refs) (Dangling index digest) = Unit {0}
+MayRefuse (CatNodeData digest) (Missing wanted) = Unit {0}
+MayRefuse (LsNodeRefs digest) (Missing wanted) = Unit {0}
+MayRefuse (PutCacheKey key value) (Poisoned wanted kept) = Unit {0}
+MayRefuse (PutCacheKey key value) (Dangling index digest) = Unit {0}
+MayRefuse (GetCacheResult key) (Missing wanted) = Unit {0}
+MayRefuse command answer = ⊥
+
 -- what a task may answer then: its output, what the one reply of a call gives, that the input is too large or no script, or want of memory
 abbrev pub MayAnswer : Task → Answer → Type 0
 MayAnswer task Done = Unit {0}
 MayAnswer task NoMemory = Unit {0}
-MayAnswer (Once command) (Missing digest) = Unit {0}
-MayAnswer (Once command) (Full full) = Unit {0}
-MayAnswer (Once command) (Poisoned wanted kept) = Unit {0}
-MayAnswer (Once command) (Dangling index digest) = Unit {0}
-MayAnswer (Once command) (TooLarge Data number) = Unit {0}
+MayAnswer (Once (Make refs)) (TooLarge Data number) = Unit {0}
+MayAnswer (Once command) (Missing digest) = MayRefuse command (Missing digest)
+MayAnswer (Once command) (Full full) = MayRefuse command (Full full)
+MayAnswer (Once command) (Poisoned wanted kept) = MayRefuse command (Poisoned wanted kept)
+MayAnswer (Once command) (Dangling index digest) = MayRefuse command (Dangling index digest)
 MayAnswer Batch (BadScript line kind) = Unit {0}
 MayAnswer Batch (TooLarge Script number) = Unit {0}
 MayAnswer task answer = ⊥

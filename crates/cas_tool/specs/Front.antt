@@ -1,5 +1,5 @@
 -- What contracts see of a run: the state that it opened, its script, the one actual list of its events, and what they decide.
-use Rattle.std.specs.Prelude.{◌≡◌, None, Some}
+use Rattle.std.specs.Prelude.{◌≡◌, ◌≤◌, None, Some}
 use Rattle.std.specs.declared.option.Option.{Option}
 use Rattle.cas_model.specs.Primary.{primary}
 use Rattle.cas_model.specs.State.{State}
@@ -27,11 +27,13 @@ closed_of events = primary_of events.start events.seen
 abbrev pub NotReached : Front → Type 0
 NotReached front = front_run front ≡ None
 
--- the run made the calls of this script's sessions, in one legal history from what these words hold, in a region of their size
+-- the run made the calls of this script's sessions, in one legal history from what these words hold, in a region of their size, and from no
+-- higher counter
 pub record Ran (opened : FrozenSeen) (script : Script) (front : Front) : Type 0 where
   pub events : EventsValue
   pub is : front_run front ≡ Some (run_of opened script events)
   pub size : events.start.size ≡ opened.tables.size
+  pub counter : events.start.counter ≤ opened.tables.counter
   pub runs : RunsScript script.sessions (primary opened.tables) events.start events.seen
 
 -- and each session was answered to its end, by these replies
@@ -39,4 +41,5 @@ pub record Answered (opened : FrozenSeen) (script : Script) (replies : Replies) 
   pub events : EventsValue
   pub is : front_run front ≡ Some (run_of opened script events)
   pub size : events.start.size ≡ opened.tables.size
+  pub counter : events.start.counter ≤ opened.tables.counter
   pub answers : AnswersScript script.sessions replies.sessions (primary opened.tables) events.start events.seen

@@ -14,3 +14,5 @@ pub mod Validation
 pub mod Writing
 pub mod Run
 pub mod Complete
+pub mod Room
+pub mod Headline

@@ -1,5 +1,5 @@
 -- What a run made, and how its history tells it.
-use Rattle.std.specs.Prelude.{◌≡◌, List, []}
+use Rattle.std.specs.Prelude.{◌≡◌, List}
 use Rattle.std.specs.FinMap as fin
 use Rattle.cas_model.specs.declared.call.Call.{Call}
 use Rattle.cas_model.specs.Primary.{primary}

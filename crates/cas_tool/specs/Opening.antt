@@ -1,9 +1,7 @@
 -- What opening the folder leaves.
-use Rattle.std.specs.Prelude.{◌≡◌, ℕ, ◌⊎◌, List, true, Some, None}
-use Rattle.std.specs.declared.option.Option.{Option}
-use Rattle.std.specs.declared.result.Result.TheVariants.{Ok}
+use Rattle.std.specs.Prelude.{◌≡◌, ℕ, ◌⊎◌, List, true, Some}
 use Rattle.cas_outside.specs.Causes.{Rose}
-use Rattle.cas_outside.specs.Folder.{Files, FolderView, Later, Entered}
+use Rattle.cas_outside.specs.Folder.{FolderView, Later}
 use Rattle.generations.specs.declared.opening.OpenError.{OpenError}
 use Rattle.generations.specs.declared.opening.OpenError.TheVariants as error
 use Rattle.generations.specs.declared.opening.Opened.{Opened}

@@ -15,13 +15,12 @@ use Rattle.generations.specs.declared.saving.SaveError.TheVariants as save
 use Rattle.generations.specs.Names.{generation_name}
 use Rattle.generations.specs.Saved.{Saves}
 use Rattle.cas_tool.specs.declared.answer.Answer.{Answer}
-use Rattle.cas_tool.specs.declared.answer.Answer.TheVariants.{Done, Missing, Usage, ReadFault, WriteFault, FolderFault, Damaged, Full, Poisoned, Dangling, BadScript, Held, TooLarge, NoMemory}
+use Rattle.cas_tool.specs.declared.answer.Answer.TheVariants.{Done, Usage, WriteFault, FolderFault, TooLarge, NoMemory}
 use Rattle.cas_tool.specs.declared.answer.Large.TheVariants.{References}
 use Rattle.cas_tool.specs.declared.answer.UsageKind.{UsageKind}
 use Rattle.cas_tool.specs.declared.answer.UsageKind.TheVariants.{Words, Operands, BadOperand}
 use Rattle.cas_tool.specs.declared.command.Options.{Options}
 use Rattle.cas_tool.specs.declared.command.Request.{Request}
-use Rattle.cas_tool.specs.declared.command.Task.{Task}
 use Rattle.cas_tool.specs.declared.command.Task.TheVariants.{Validate}
 use Rattle.cas_tool.specs.declared.command.Verb.{Verb}
 use Rattle.cas_tool.specs.declared.front.Front.{Front}

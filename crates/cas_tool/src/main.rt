@@ -8,6 +8,8 @@ mod closing;
 mod command;
 mod front;
 mod input;
+#[cfg(test)]
+mod limit_tests;
 mod opening;
 mod output;
 mod run;

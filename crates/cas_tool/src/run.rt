@@ -4,7 +4,9 @@ ghost use Rattle.cas_outside.specs.Folder.{MayEnter};
 ghost use Rattle.sessions.specs.Limits.{FitsScript};
 ghost use Rattle.cas_tool.specs.Answer.{status_of};
 ghost use Rattle.cas_tool.specs.Complete.{IsCompleteRun};
+ghost use Rattle.cas_tool.specs.Headline.{HasHeadline};
 ghost use Rattle.cas_tool.specs.Made.{IsOneCall};
+ghost use Rattle.cas_tool.specs.Room.{IsRoomy};
 ghost use Rattle.cas_tool.specs.Run.{Because, Ends, IsSaved, Prepares, Refuses, RunPrepares, RunRefuses, SavingStops, ValidatePrepares, ValidateRefuses, outside_with, sink_with, world_with};
 
 use crate::answer::{Answer, Outcome};
@@ -39,6 +41,8 @@ pub fn cas_run<R: AllocGlobal, F: Folder, S: Source, W: Sink, G: Gate>(
     ensures complete { IsCompleteRun words.now
         (world_with (S.left source.old) (S.faults source.old) (F.view folder.old) (W.held sink.old) (W.faults sink.old))
         (world_with (S.left source.new) (S.faults source.new) (F.view folder.new) (W.held sink.new) (W.faults sink.new)) result.answer }
+    ensures roomy { IsRoomy result.front result.answer }
+    ensures history { HasHeadline (F.view folder.old).files (F.view folder.new).files result.front result.answer }
 {
     let (front, prepared) = prepare(rt.alloc(), words, folder, source, gate);
     let answer = finish(sink, prepared);

@@ -1,5 +1,5 @@
 // Running a script from an opened generation.
-ghost use Rattle.std.specs.Prelude.{◌≡◌, ◌⊎◌, IfOk, OnErr, MatchResult};
+ghost use Rattle.std.specs.Prelude.{◌≡◌, ◌≤◌, ◌⊎◌, IfOk, OnErr, MatchResult};
 ghost use Rattle.sessions.specs.Limits.{FitsScript};
 ghost use Rattle.cas_model.specs.Primary.{primary};
 ghost use Rattle.cas_tool.specs.Front.{NotReached, Ran};
@@ -70,6 +70,7 @@ fn run_sessions<G: Gate>(
     requires fits { FitsScript work.now.script }
     requires one { IsOneCall work.now }
     ensures size { port.new.start.size ≡ opened.now.tables.size }
+    ensures counter { port.new.start.counter ≤ opened.now.tables.counter }
     ensures ok { IfOk result (λ made. HasRunTo opened.now work.now port.new.start port.new.seen made) }
     ensures err { OnErr result (RunsScript work.now.script.sessions (primary opened.now.tables) port.new.start port.new.seen) }
 {

@@ -72,16 +72,32 @@ pub fn run_failing(
     requires { folder.old.asked ≡ None }
     ensures { folder.new.asked ≡ None }
 {
+    let bytes = bytes.to_vec(rt.alloc())?;
+    let source = MemSource::new(bytes, failing_reads.to_vec(rt.alloc())?);
+    let failing_writes = failing_writes.to_vec(rt.alloc())?;
+    let sink = MemSink::new(rt.alloc(), 1_000_000, 7, failing_writes)?;
+    run_over(rt, folder, words, source, sink)
+}
+
+/// The same, from this source to this sink.
+pub fn run_over(
+    rt: &HostRuntime,
+    folder: &mut MemFolder,
+    words: &[&str],
+    source: MemSource,
+    sink: MemSink,
+) -> Result<Ran, Fail>
+    requires { folder.old.asked ≡ None }
+    ensures { folder.new.asked ≡ None }
+{
+    let mut source = source;
+    let mut sink = sink;
     let mut owned = Vec::new(rt.alloc());
     owned.push("--cas".to_string(rt.alloc())?)?;
     owned.push("c".to_string(rt.alloc())?)?;
     for word in words {
         owned.push(word.to_string(rt.alloc())?)?;
     }
-    let bytes = bytes.to_vec(rt.alloc())?;
-    let mut source = MemSource::new(bytes, failing_reads.to_vec(rt.alloc())?);
-    let failing_writes = failing_writes.to_vec(rt.alloc())?;
-    let mut sink = MemSink::new(rt.alloc(), 1_000_000, 7, failing_writes)?;
     let outcome = cas_run(rt, &owned, folder, &mut source, &mut sink, &NoGate);
     folder.leave();
     Ok(Ran {

@@ -1,7 +1,7 @@
 -- what the words asked for, and how far it came
 use Rattle.std.proofs.Common.{refl}
 use Rattle.cas_tool.specs.Run.{Ask, outside_with}
-use Rattle.cas_tool.proofs.RunLemmas.{begin-within, check-prepares, check-refuses, dir-named, has-dir, one-call, size-within, task-prepares, task-refuses, task-within, work-stops}
+use Rattle.cas_tool.proofs.RunLemmas.{check-prepares, check-refuses, dir-named, has-dir, one-call, size-within, task-prepares, task-refuses, work-stops}
 use Rattle.cas_tool.proofs.run.prepare.Goals as goal
 
 pub returns-in-Validate-clause-ok : goal.returns-in-Validate-clause-ok
