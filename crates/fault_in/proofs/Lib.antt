@@ -1,0 +1,13 @@
+pub mod Costs
+pub mod Steps
+pub mod Sought
+pub mod Written
+pub mod Contents
+pub mod Brought
+pub mod Opened
+pub mod Lower
+pub mod Fresh
+pub mod Work
+pub mod Walked
+pub mod Ended
+pub mod Called

@@ -1,0 +1,5 @@
+pub mod Errors
+pub mod Tree
+pub mod FaultIn
+pub mod Parts
+pub mod Open

@@ -1,0 +1,12 @@
+//! Whole trees of objects from an upstream into a primary, over any port.
+#![tactic(auto)]
+
+mod error;
+mod seeking;
+#[cfg(test)]
+mod tests;
+mod walking;
+mod writing;
+
+pub use error::FaultInError;
+pub use walking::fault_in;
