@@ -4,3 +4,7 @@ pub mod Chain
 pub mod FolderState
 pub mod Opened
 pub mod Saved
+pub mod Rotation
+pub mod Pruning
+pub mod Removing
+pub mod Laws
