@@ -2,4 +2,7 @@ pub mod Alone
 pub mod NameLemmas
 pub mod ChainLemmas
 pub mod OpeningLemmas
+pub mod FileLemmas
 pub mod StateLemmas
+pub mod PruningLemmas
+pub mod RemovingLemmas

@@ -1,5 +1,7 @@
 -- What pruning a folder leaves.
-use Rattle.std.specs.Prelude.{◌≡◌, ◌≢◌, ℕ, ◌<◌, List, Contains, length, Some, None}
+use Rattle.std.specs.Prelude.{◌≡◌, ◌≢◌, ℕ, ◌<◌, if◌then◌else◌, Bool, nat_eq, List, Contains, length, Some, None}
+use Rattle.std.specs.Cmp.Lexicographic.{pointwise}
+use Rattle.std.specs.List.{list_any}
 use Rattle.std.specs.List.Sorted.{IsStrictlyIncreasing}
 use Rattle.std.specs.declared.option.Option.{Option}
 use Rattle.std.specs.declared.result.Result.{Result}
@@ -32,10 +34,13 @@ pub record AreLowestUnused (files : Files) (numbers : List ℕ) : Type 0 where
   pub only : (n : ℕ) → Contains numbers n → IsUnused files n
   pub lowest : (n m : ℕ) → Contains numbers m → IsUnused files n → n < m → Contains numbers n
 
+-- whether one of these generations has this name
+abbrev pub is_name_among : List ℕ → List ℕ → Bool
+is_name_among numbers name = list_any (λ n. pointwise nat_eq (generation_name n) name) numbers
+
 -- the files of these generations are gone, and every other name has its old file, or none as before
-pub record Loses (numbers : List ℕ) (old new : Files) : Type 0 where
-  pub gone : (n : ℕ) → Contains numbers n → fin.get new (generation_name n) ≡ None
-  pub kept : (name : List ℕ) → ((n : ℕ) → Contains numbers n → name ≢ generation_name n) → fin.get new name ≡ fin.get old name
+abbrev pub Loses : List ℕ → Files → Files → Type 0
+Loses numbers old new = (name : List ℕ) → fin.get new name ≡ (if is_name_among numbers name then None else fin.get old name)
 
 -- all unused generations are gone, and there were so many
 pub record LosesAll (old new : Files) (count : ℕ) : Type 0 where
@@ -50,15 +55,15 @@ pub record LosesSome (old new : Files) : Type 0 where
   pub unused : AreLowestUnused old numbers
   pub loses : Loses numbers old new
 
--- ---- where the files are told
+-- ---- where the files are told. Where they are not, they are not told after the call
 
 abbrev pub ToldLosesAll : Option Files → Option Files → ℕ → Type 0
-ToldLosesAll None new count = Unit {0}
+ToldLosesAll None new count = new ≡ None
 ToldLosesAll (Some old) None count = ⊥
 ToldLosesAll (Some old) (Some new) count = LosesAll old new count
 
 abbrev pub ToldLosesSome : Option Files → Option Files → Type 0
-ToldLosesSome None new = Unit {0}
+ToldLosesSome None new = new ≡ None
 ToldLosesSome (Some old) None = ⊥
 ToldLosesSome (Some old) (Some new) = LosesSome old new
 

@@ -42,7 +42,7 @@ ListFails old new Memory = Unit {0}
 
 -- the generations with these numbers are gone, where the files are told
 abbrev pub ToldLoses : Option Files → Option Files → List ℕ → Type 0
-ToldLoses None new numbers = Unit {0}
+ToldLoses None new numbers = new ≡ None
 ToldLoses (Some old) None numbers = ⊥
 ToldLoses (Some old) (Some new) numbers = Loses numbers old new
 
