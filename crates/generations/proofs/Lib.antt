@@ -3,6 +3,6 @@ pub mod NameLemmas
 pub mod ChainLemmas
 pub mod OpeningLemmas
 pub mod FileLemmas
-pub mod StateLemmas
+pub mod ChainStates
 pub mod PruningLemmas
 pub mod RemovingLemmas

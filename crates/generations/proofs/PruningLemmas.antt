@@ -27,7 +27,7 @@ use Rattle.generations.specs.Removing.{AreBelowUpstream, AreOnce, AreToldUnused,
 use Rattle.generations.proofs.ChainLemmas.{counted, file-listed, listed-before, listed-cases, listed-file, listed-last, nothing-listed, two-same}
 use Rattle.generations.proofs.FileLemmas.{get-removed}
 use Rattle.generations.proofs.NameLemmas.{named-once, one-number}
-use Rattle.generations.proofs.StateLemmas.{chain-once}
+use Rattle.generations.proofs.ChainStates.{chain-once}
 
 -- ---- below the upstream
 

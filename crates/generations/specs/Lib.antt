@@ -1,4 +1,5 @@
 pub mod Answers
+pub mod Upstream
 pub mod Names
 pub mod Chain
 pub mod FolderState

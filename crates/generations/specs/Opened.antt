@@ -2,8 +2,7 @@
 use Rattle.std.specs.Prelude.{◌≡◌, ◌≢◌, ◌⊎◌, ℕ, List, Bool, true, false, Some, None, is_some}
 use Rattle.std.specs.declared.option.Option.{Option}
 use Rattle.std.specs.FinMap as fin
-use Rattle.cas_model.specs.Primary.{primary}
-use Rattle.cas_model.specs.State.{State, empty_state}
+use Rattle.cas_model.specs.State.{State}
 use Rattle.cas_model.specs.Tables.{empty_start}
 use Rattle.cas_outside.specs.Causes.{Rose}
 use Rattle.cas_outside.specs.Folder.{Files, FolderView, HasName, Later}
@@ -80,11 +79,6 @@ primary_number opened = numbered opened.has_file opened.number
 -- the number of the upstream, where there is one
 abbrev pub upstream_number : Opened → Option ℕ
 upstream_number opened = numbered (is_some opened.up) opened.up_number
-
--- the state of the upstream, the empty one where there is none
-abbrev pub upstream_state : Option FrozenSeen → State
-upstream_state None = empty_state
-upstream_state (Some frozen) = primary frozen.tables
 
 -- a folder without generations opens as this
 pub record IsFresh (size : ℕ) (opened : Opened) : Type 0 where

@@ -12,9 +12,10 @@ use Rattle.region_core.specs.Stands.{AreWords, Stands}
 use Rattle.generations.specs.declared.opening.Opened.{Opened}
 use Rattle.generations.specs.Chain.{HasGeneration, IsChain, IsHighestBelow, IsToldChain}
 use Rattle.generations.specs.FolderState.{HasChain, HasState, IsStateOf}
-use Rattle.generations.specs.Laws.{ReadsChain}
+use Rattle.generations.specs.Laws.{HasNumberedChain, ReadsChain}
 use Rattle.generations.specs.Names.{generation_name}
-use Rattle.generations.specs.Opened.{HasUpstream, IsFresh, IsOpened, IsRead, OpensTo, numbered, primary_number, upstream_number, upstream_state}
+use Rattle.generations.specs.Opened.{HasUpstream, IsFresh, IsOpened, IsRead, OpensTo, numbered, primary_number, upstream_number}
+use Rattle.generations.specs.Upstream.{upstream_state}
 use Rattle.generations.proofs.ChainLemmas.{highest-once, raised, two-same}
 use Rattle.generations.proofs.FileLemmas.{now-there, other-name, put-other, put-there, still-there, was-there}
 
@@ -123,40 +124,46 @@ module _ (files : Files) (n : ℕ) (words : List ℕ) (small : n < 4294967296) w
 
 -- ---- saving
 
-saved-over : (files : Files) (p u new : State) (n size : ℕ) (words : List ℕ) (v : Option ℕ) → IsChain files (Some n) v → IsStateOf files v u → AreWords words → Stands words size new
-    → HasChain (fin.insert files (generation_name n) (image_bytes words)) new u
-saved-over files p u new n size words v chain is are stands =
+saved-over : (files : Files) (u new : State) (n size : ℕ) (words : List ℕ) (v : Option ℕ) → IsChain files (Some n) v → IsStateOf files v u → AreWords words → Stands words size new
+    → HasNumberedChain (fin.insert files (generation_name n) (image_bytes words)) n new u
+saved-over files u new n size words v chain is are stands =
     let small = chain.primary_is.1 in
     record {
-      primary_number = Some n;
-      upstream_number = v;
-      numbers = put-again files n words small (Some n) v chain.primary_is.0 chain;
-      primary_is = put-state files n words small size new are stands;
-      upstream_is = kept-below files n words small n v u (omega arith) chain.upstream_is is;
+      chain = record {
+        primary_number = Some n;
+        upstream_number = v;
+        numbers = put-again files n words small (Some n) v chain.primary_is.0 chain;
+        primary_is = put-state files n words small size new are stands;
+        upstream_is = kept-below files n words small n v u (omega arith) chain.upstream_is is;
+      };
+      number_is = refl;
     }
 
 saved-first : (files : Files) (u new : State) (size : ℕ) (words : List ℕ) (v : Option ℕ) → IsChain files None v → IsStateOf files v u → AreWords words → Stands words size new
-    → HasChain (fin.insert files (generation_name 1) (image_bytes words)) new u
+    → HasNumberedChain (fin.insert files (generation_name 1) (image_bytes words)) 1 new u
 saved-first files u new size words None chain is are stands = record {
-  primary_number = Some 1;
-  upstream_number = None;
-  numbers = put-above files 1 words (omega arith) None None (omega arith) chain (omega arith);
-  primary_is = put-state files 1 words (omega arith) size new are stands;
-  upstream_is = is;
+  chain = record {
+    primary_number = Some 1;
+    upstream_number = None;
+    numbers = put-above files 1 words (omega arith) None None (omega arith) chain (omega arith);
+    primary_is = put-state files 1 words (omega arith) size new are stands;
+    upstream_is = is;
+  };
+  number_is = refl;
 }
 saved-first files u new size words (Some k) chain is are stands = (let below = chain.upstream_is.1 in absurd (omega (arith, below)))
 
-saved-under : (files : Files) (p u new : State) (size : ℕ) (words : List ℕ) (number v : Option ℕ) → IsChain files number v → IsStateOf files v u → AreWords words → Stands words size new
-    → HasChain (fin.insert files (generation_name (unwrap_or number 1)) (image_bytes words)) new u
-saved-under files p u new size words None v chain is are stands = saved-first files u new size words v chain is are stands
-saved-under files p u new size words (Some n) v chain is are stands = saved-over files p u new n size words v chain is are stands
+saved-under : (files : Files) (u new : State) (size : ℕ) (words : List ℕ) (number v : Option ℕ) → IsChain files number v → IsStateOf files v u → AreWords words → Stands words size new
+    → HasNumberedChain (fin.insert files (generation_name (unwrap_or number 1)) (image_bytes words)) (unwrap_or number 1) new u
+saved-under files u new size words None v chain is are stands = saved-first files u new size words v chain is are stands
+saved-under files u new size words (Some n) v chain is are stands = saved-over files u new n size words v chain is are stands
 
 pub saved-chain :
     (files : Files) (p u new : State) (number size : ℕ) (words : List ℕ) (chain : HasChain files p u) → unwrap_or chain.primary_number 1 ≡ number → AreWords words → Stands words size new
-    → HasChain (fin.insert files (generation_name number) (image_bytes words)) new u
+    → HasNumberedChain (fin.insert files (generation_name number) (image_bytes words)) number new u
 saved-chain files p u new number size words chain is are stands =
-    subst (λ n. HasChain (fin.insert files (generation_name n) (image_bytes words)) new u) is
-    (saved-under files p u new size words chain.primary_number chain.upstream_number chain.numbers chain.upstream_is are stands)
+    subst (λ n. HasNumberedChain (fin.insert files (generation_name n) (image_bytes words)) n new u) is
+    (saved-under files u new size words chain.primary_number chain.upstream_number chain.numbers chain.upstream_is are stands)
 
 -- ---- rotating
 
