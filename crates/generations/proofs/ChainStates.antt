@@ -1,6 +1,6 @@
 -- The states of a folder's two highest generations, as it is opened, saved, rotated and pruned.
-use Rattle.std.proofs.Common.{◌≡◌, ◌≢◌, ℕ, ◌+◌, ◌<◌, ◌≤◌, Bool, true, false, cond, is_some, List, ◌⊎◌, inl, inr, Some, None, refl, ap, sym, ◌∙◌, subst, arith}
-use Rattle.std.specs.Prelude.{Contains, unwrap_or}
+use Rattle.std.proofs.Common.{◌≡◌, ◌≢◌, ℕ, ◌+◌, ◌<◌, ◌≤◌, Bool, true, false, is_some, List, inl, inr, Some, None, refl, ap, sym, ◌∙◌, subst, arith}
+use Rattle.std.specs.Prelude.{unwrap_or}
 use Rattle.std.specs.declared.option.Option.{Option}
 use Rattle.std.specs.FinMap as fin
 use Rattle.cas_model.specs.Primary.{primary}
@@ -14,7 +14,7 @@ use Rattle.generations.specs.Chain.{HasGeneration, IsChain, IsHighestBelow, IsTo
 use Rattle.generations.specs.FolderState.{HasChain, HasState, IsStateOf}
 use Rattle.generations.specs.Laws.{HasNumberedChain, ReadsChain}
 use Rattle.generations.specs.Names.{generation_name}
-use Rattle.generations.specs.Opened.{HasUpstream, IsFresh, IsOpened, IsRead, OpensTo, numbered, primary_number, upstream_number}
+use Rattle.generations.specs.Opened.{HasUpstream, IsOpened, IsRead, OpensTo, numbered, primary_number, upstream_number}
 use Rattle.generations.specs.Upstream.{upstream_state}
 use Rattle.generations.proofs.ChainLemmas.{highest-once, raised, two-same}
 use Rattle.generations.proofs.FileLemmas.{now-there, other-name, put-other, put-there, still-there, was-there}

@@ -1,5 +1,5 @@
 -- The unused generations: their numbers, their removal, and what is left.
-use Rattle.std.proofs.Common.{◌≡◌, ◌≢◌, ℕ, zero, suc, ◌+◌, ◌<◌, ◌≤◌, ◌||◌, Bool, true, false, cond, is_some, List, [], ◌∷◌, ◌++◌, length, take, get_or, min, ◌⊎◌, inl, inr, Some, None, Ok, Err, refl, ap, sym, ◌∙◌, subst, arith}
+use Rattle.std.proofs.Common.{◌≡◌, ◌≢◌, ℕ, suc, ◌+◌, ◌<◌, ◌≤◌, ◌||◌, Bool, true, false, cond, is_some, List, [], ◌∷◌, ◌++◌, length, take, get_or, min, inl, inr, Some, None, refl, ap, sym, ◌∙◌, subst, arith}
 use Rattle.std.specs.Prelude.{Contains, count_by, nat_eq, unwrap_or}
 use Rattle.std.specs.Cmp.{nat_eq_equiv}
 use Rattle.std.specs.Cmp.Lexicographic.{bytes_decides, pointwise}
@@ -10,8 +10,8 @@ use Rattle.std.specs.Ordering.{nat_cmp}
 use Rattle.std.specs.declared.option.Option.{Option}
 use Rattle.std.proofs.lemmas.Bool.{cases_lt}
 use Rattle.std.proofs.lemmas.Bool.Decides.{Decides-eqb}
-use Rattle.std.proofs.lemmas.List.{get_or-take, get_or_default, length-take, length-take-le, take-append-drop, take_more}
-use Rattle.std.proofs.lemmas.List.Elements.{Contains-append_left, Contains-append_right, Contains-push, Contains-push_cases}
+use Rattle.std.proofs.lemmas.List.{get_or-take, get_or_default, length-take, length-take-le, take-append-drop}
+use Rattle.std.proofs.lemmas.List.Elements.{Contains-append_left, Contains-push, Contains-push_cases}
 use Rattle.std.proofs.lemmas.List.Folds.{list_any-append}
 use Rattle.std.proofs.lemmas.List.Sorted.{Contains-permutation, IsNonDecreasingBy-from_sort, IsPermutation-sym}
 use Rattle.std.proofs.lemmas.List.Sums.{sum_by-append}
@@ -20,7 +20,7 @@ use Rattle.std.proofs.lemmas.Map.Views.{Contains-from_any}
 use Rattle.cas_outside.specs.Folder.{Files, HasName, ListsNames, RemovesFile}
 use Rattle.cas_model.specs.State.{State}
 use Rattle.generations.specs.Chain.{AreTwoHighest, HasGeneration, IsChain, IsHighestBelow, IsListed}
-use Rattle.generations.specs.FolderState.{HasChain, HasState, IsStateOf}
+use Rattle.generations.specs.FolderState.{HasChain, IsStateOf}
 use Rattle.generations.specs.Names.{IsNameOf, generation_name}
 use Rattle.generations.specs.Pruning.{AreLowestUnused, AreUnused, IsUnused, Loses, LosesAll, LosesSome, ToldLosesAll, ToldLosesSome, is_name_among}
 use Rattle.generations.specs.Removing.{AreBelowUpstream, AreOnce, AreToldUnused, ToldLoses}

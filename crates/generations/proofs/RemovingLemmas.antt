@@ -1,7 +1,6 @@
 -- Views of a folder from which generations are removed in turn.
-use Rattle.std.proofs.Common.{◌≡◌, ℕ, ◌+◌, ◌<◌, ◌≤◌, List, [], ◌∷◌, ◌++◌, length, take, get_or, ◌⊎◌, inl, inr, Some, None, Ok, Err, refl, ap, sym, ◌∙◌, subst, arith}
+use Rattle.std.proofs.Common.{◌≡◌, ℕ, ◌+◌, ◌<◌, ◌≤◌, List, [], ◌∷◌, length, take, get_or, inl, inr, Ok, Err, refl, ap, sym, ◌∙◌, subst, arith}
 use Rattle.std.specs.declared.option.Option.{Option}
-use Rattle.std.specs.declared.result.Result.{Result}
 use Rattle.std.proofs.lemmas.List.{take_more, take_all}
 use Rattle.cas_outside.specs.Causes.{Rose}
 use Rattle.cas_outside.specs.Folder.{Calm, Files, FolderView, Removed}
@@ -11,7 +10,7 @@ use Rattle.generations.specs.declared.saving.SaveError.{SaveError}
 use Rattle.generations.specs.declared.saving.SaveError.TheVariants.{FolderFault, Memory}
 use Rattle.generations.specs.Names.{generation_name}
 use Rattle.generations.specs.Pruning.{Prunes, PrunesTo, ToldLosesAll, ToldLosesSome}
-use Rattle.generations.specs.Removing.{AreToldUnused, HasRemoved, KeepsRest, ListFails, Removes, RemovesTo, StopsRemoving, ToldLoses}
+use Rattle.generations.specs.Removing.{AreToldUnused, HasRemoved, KeepsRest, ListFails, Removes, StopsRemoving, ToldLoses}
 use Rattle.generations.specs.Saved.{save_error_of}
 use Rattle.generations.proofs.PruningLemmas.{all-lost, none-lost, some-lost, told-more, told-none}
 

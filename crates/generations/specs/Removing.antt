@@ -10,7 +10,6 @@ use Rattle.cas_outside.specs.Folder.{Files, FolderView, Later, RemovesFile}
 use Rattle.generations.specs.declared.saving.SaveError.{SaveError}
 use Rattle.generations.specs.declared.saving.SaveError.TheVariants.{FolderFault, Memory}
 use Rattle.generations.specs.Chain.{AreTwoHighest, IsListed}
-use Rattle.generations.specs.Names.{generation_name}
 use Rattle.generations.specs.Pruning.{AreUnused, Loses}
 
 -- ---- the numbers
