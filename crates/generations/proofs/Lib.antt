@@ -1,4 +1,5 @@
-pub mod Alone
+pub mod AloneLemmas
+pub mod UnderWay
 pub mod NameLemmas
 pub mod ChainLemmas
 pub mod OpeningLemmas

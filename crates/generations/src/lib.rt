@@ -2,12 +2,16 @@
 //! that keeps them.
 #![tactic(auto)]
 
+mod alone;
 mod chain;
 #[cfg(test)]
 mod folder_tests;
+mod keeping;
 mod names;
 mod opening;
+mod replies;
 mod saving;
+mod storing;
 #[cfg(test)]
 mod tests;
 mod unified;

@@ -1,6 +1,6 @@
 -- what the put leaves, as one call
-use Rattle.generations.proofs.Alone.{no-value, kept, put-answered, put-stopped}
-use Rattle.generations.proofs.unified.Unified.put.Goals as goal
+use Rattle.generations.proofs.AloneLemmas.{no-value, kept, put-answered, put-stopped}
+use Rattle.generations.proofs.alone.put_alone.Goals as goal
 
 pub put-requires-clause-lacks : goal.put-requires-clause-lacks
 put-requires-clause-lacks g c = no-value _ _ c.requires.upstream

@@ -1,6 +1,6 @@
 -- what the get leaves, as one call
-use Rattle.generations.proofs.Alone.{missed, get-stops, on-error}
-use Rattle.generations.proofs.unified.Unified.get.Goals as goal
+use Rattle.generations.proofs.AloneLemmas.{missed, get-stops, on-error}
+use Rattle.generations.proofs.alone.get_alone.Goals as goal
 
 pub returns-in_err-value-clause-err : goal.returns-in_err-value-clause-err
 returns-in_err-value-clause-err g c = on-error _ (get-stops _ _ _ _ c.in_err-value.ensures.err)

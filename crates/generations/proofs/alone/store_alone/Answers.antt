@@ -1,6 +1,6 @@
 -- what the store leaves, as one call
-use Rattle.generations.proofs.Alone.{brought, stored, store-answered, store-stopped}
-use Rattle.generations.proofs.unified.Unified.store.Goals as goal
+use Rattle.generations.proofs.AloneLemmas.{brought, stored, store-answered, store-stopped}
+use Rattle.generations.proofs.alone.store_alone.Goals as goal
 
 pub store-requires-clause-brought : goal.store-requires-clause-brought
 store-requires-clause-brought g c = brought (g.P.CellPort.view c.args.port.now) _ c.requires.upstream
