@@ -1,6 +1,8 @@
 -- A call that goes on over an upstream, and how it ends.
-use Rattle.std.proofs.Common.{◌≡◌, ℕ, ◌+◌, ◌≤◌, List, [], ◌∷◌, ◌++◌, Bool, true, false, ◌&&◌, ◌||◌, ◌⊎◌, inl, inr, None, Some, is_some, IsTrue, refl, ap, sym, ◌∙◌, subst, arith}
+use Rattle.std.proofs.Common.{◌≡◌, ℕ, ◌+◌, ◌≤◌, List, [], ◌∷◌, ◌++◌, Bool, true, false, ◌&&◌, ◌||◌, ◌⊎◌, inl, inr, None, Some, is_some, IsTrue, Ok, Err, IfOk, IfErr, OnErr, ◌↔◌, refl, ap, sym, ◌∙◌, subst, arith}
+use Rattle.std.specs.declared.alloc.AllocError.{AllocError}
 use Rattle.std.specs.declared.option.Option.{Option}
+use Rattle.std.specs.declared.result.Result.{Result}
 use Rattle.std.specs.FinMap as fin
 use Rattle.cas_model.specs.declared.call.Call.{Call}
 use Rattle.cas_model.specs.declared.call.Reply.{Reply}
@@ -11,10 +13,13 @@ use Rattle.cas_model.specs.declared.note.Note.{Note}
 use Rattle.cas_model.specs.declared.note.Stage.{Stage}
 use Rattle.cas_model.specs.declared.note.Stage.TheVariants.{Ref, Own, Key, Deep}
 use Rattle.cas_model.specs.declared.object.Object.{Object}
+use Rattle.cas_model.specs.declared.place.Place.{Place}
+use Rattle.cas_model.specs.declared.place.Space.TheVariants.{Objects}
+use Rattle.cas_model.specs.Primary.{cell_under, primary}
 use Rattle.cas_model.specs.State.{State, HasAll, has}
 use Rattle.cas_model.specs.Tables.{Tables}
 use Rattle.cas_history.specs.declared.event.Event.{Event}
-use Rattle.cas_history.specs.Conduct.{AreThere, CallOpen, IsRoot, is_key, is_own, is_ref, is_shallow, missed, same_who}
+use Rattle.cas_history.specs.Conduct.{AreThere, CallOpen, is_key, is_own, is_ref, is_shallow, missed, same_who}
 use Rattle.cas_history.specs.Cost.{AreOfTree, Row, asked, own_cost, rows_cost}
 use Rattle.cas_history.specs.History.{is_miss}
 use Rattle.cas_history.specs.Run.{tables as tables_after}
@@ -25,18 +30,20 @@ use Rattle.cell_port.specs.Calls.{IsLawful}
 use Rattle.cell_port.specs.View.{View, tables}
 use Rattle.fault_in.specs.declared.error.FaultInError.{FaultInError}
 use Rattle.fault_in.specs.declared.error.FaultInError.TheVariants as fault
-use Rattle.fault_in.specs.FaultIn.{Costs, FaultInStops, HasNoMemory, HasNoRoom, IsWholeNow}
+use Rattle.fault_in.specs.FaultIn.{Costs, FaultInStops, HasFaultedIn, HasNoMemory, HasNoRoom, IsWholeNow}
 use Rattle.fault_in.specs.Tree.{AreMissing, HasRows, HasTree, deep_note}
 use Rattle.fault_in.proofs.Called.{cost-together, refused-goes, refused-last, rows-together}
+use Rattle.fault_in.proofs.Ended.{up-has, up-lacks}
 use Rattle.fault_in.proofs.Steps.{brings-goes}
-use Rattle.graph_db.specs.Events.{Ends, Goes, Last, seen_state}
+use Rattle.frozen_store.specs.Seen.{FrozenSeen, IsSeen, place_in}
+use Rattle.graph_db.specs.Events.{Ends, Goes, Last, SpeaksFor, seen_state}
 use Rattle.graph_db.specs.Events as graph
 use Rattle.graph_db.specs.Parts.{IsLawfulOrSame}
 use Rattle.graph_db.proofs.Found.{goes-grows, lawful-same-then}
 use Rattle.graph_db.proofs.Sought.{there-more}
-use Rattle.graph_db.proofs.Steps.{goes-opened, goes-self, goes-takes, goes-then, goes-upstream, missed-more}
+use Rattle.graph_db.proofs.Steps.{goes-opened, goes-self, goes-speaks, goes-takes, goes-then, goes-upstream, missed-more}
 use Rattle.generations.specs.Answers.{Answers, CostsAtMost, Stops}
-use Rattle.generations.specs.Over.{AreVisible, EndsEarly, IsUnderWay}
+use Rattle.generations.specs.Over.{AreVisible, EndsEarly, IsUnderWay, answer_of}
 use Rattle.generations.specs.Upstream.{NeedsTree}
 
 -- ---- what stays
@@ -130,15 +137,40 @@ missed-ref start who i seen h = missed-wider start who (is_ref i) is_shallow see
 
 -- ---- what is missing
 
--- a digest of the call that the upstream has
-pub needs-root : (who : Who) (call : Call) (root : Digest) (first mid : View) → Goes who first mid → IsLawfulOrSame first mid → IsRoot mid.upstream call root → has mid.upstream root ≡ true
+-- an object of the upstream whose tree the call has
+pub needs-tree : (who : Who) (call : Call) (root : Digest) (first mid : View) → Goes who first mid → IsLawfulOrSame first mid → HasTree mid.upstream call root → has mid.upstream root ≡ true
     → has (seen_state mid) root ≡ false → NeedsTree call first
-needs-root who call root first mid goes lawful from there lacks =
+needs-tree who call root first mid goes lawful tree there lacks =
     let up : mid.upstream ≡ first.upstream = goes-upstream who first mid goes in
-    step (fin.get first.upstream.objects root) refl (subst (λ (u : State). IsRoot u call root) up from) (subst (λ (u : State). has u root ≡ true) up there) (lacked-earlier who first mid root goes lawful lacks) where
-      step : (found : Option Object) → fin.get first.upstream.objects root ≡ found → IsRoot first.upstream call root → has first.upstream root ≡ true → has (seen_state first) root ≡ false → NeedsTree call first
-      step None at from there lacks = absurd (cc (there, ap is_some at))
-      step (Some o) at from there lacks = record { digest = root; object = o; tree = record { root = root; from = from; path = []; leads = refl; is = at }; lacks = lacks }
+    step (fin.get first.upstream.objects root) refl (subst (λ (u : State). HasTree u call root) up tree) (subst (λ (u : State). has u root ≡ true) up there) (lacked-earlier who first mid root goes lawful lacks) where
+      step : (found : Option Object) → fin.get first.upstream.objects root ≡ found → HasTree first.upstream call root → has first.upstream root ≡ true → has (seen_state first) root ≡ false → NeedsTree call first
+      step None at tree there lacks = absurd (cc (there, ap is_some at))
+      step (Some o) at tree there lacks = record { digest = root; object = o; tree = tree root o (record { path = []; leads = refl; is = at }); lacks = lacks }
+
+-- ---- what the upstream is asked
+
+pub has-told : (seen : FrozenSeen) (d : Digest) (place : Option Place) → IsSeen seen → place ≡ place_in (cell_under seen.tables Objects d) → is_some place ≡ has (primary seen.tables) d
+has-told seen d None h is = sym (up-lacks seen.tables d None is refl)
+has-told seen d (Some place) h is = sym (up-has seen d (Some place) h is refl)
+
+-- an answer that says of a test that it is false
+pub told-true : (b : Bool) (r : Result Bool FaultInError) → (r ≡ Ok false) ↔ (b ≡ false) → (r ≡ Ok false → ⊥) → b ≡ true
+told-true true r iff other = refl
+told-true false r iff other = absurd (other (iff.1 refl))
+
+pub told-error : (b : Bool) (r : Result Bool FaultInError) (e : FaultInError) → (r ≡ Ok false) ↔ (b ≡ false) → r ≡ Err e → b ≡ true
+told-error b r e iff is = told-true b r iff (λ same. cc)
+
+pub told-some : (b answer : Bool) (r : Result Bool FaultInError) → (r ≡ Ok false) ↔ (b ≡ false) → r ≡ Ok answer → answer ≡ true → b ≡ true
+told-some b answer r iff is yes_ = told-true b r iff (λ same. cc)
+
+pub told-brought : (b answer : Bool) (r : Result Bool FaultInError) → (r ≡ Ok false) ↔ (b ≡ false) → r ≡ Ok answer → b ≡ true → answer ≡ true
+told-brought b true r iff is there = refl
+told-brought b false r iff is there = absurd (let none = iff.0 is in cc)
+
+pub whole-now : (who : Who) (root : Digest) (old new : View) (answer : Bool) → answer ≡ true → HasFaultedIn who root old new answer → IsWholeNow who root old new
+whole-now who root old new true is h = h
+whole-now who root old new false is h = cc
 
 -- ---- the call goes on
 
@@ -152,6 +184,12 @@ under-self who call v = record {
   there = tt;
   most = omega arith;
 }
+
+pub under-speaks : (who : Who) (call : Call) (first mid : View) → IsUnderWay who call first mid → SpeaksFor first who → SpeaksFor mid who
+under-speaks who call first mid h mine = goes-speaks who who first mid h.goes mine
+
+pub under-upstream : (who : Who) (call : Call) (first mid : View) (up : State) → IsUnderWay who call first mid → first.upstream ≡ up → mid.upstream ≡ up
+under-upstream who call first mid up h is = goes-upstream who first mid h.goes ∙ is
 
 -- by events that claim nothing
 pub under-then : (who : Who) (call : Call) (first mid new : View) → IsUnderWay who call first mid → IsLawfulOrSame mid new → Ends who call None mid new 0 → IsUnderWay who call first new
@@ -262,3 +300,17 @@ under-early who call root first mid new (fault.Full full) h tree before needs r 
 under-early who call root first mid new fault.Memory h tree before needs r =
     stopped who call first new (inr needs) (goes-then who first mid new h.goes (brings-goes who root false mid new r.brings)) (λ calls is opens. r.conduct calls call is tree before (h.stands calls is opens))
     (tree-costs who call root first mid new h tree before r.cost)
+
+-- ---- the reply
+
+pub answered-ok : (who : Who) (call : Call) (old new : View) (end : Result Reply FaultInError) (result : Result Reply AllocError) → IfOk end (λ given. Answers who call given old new)
+    → IfErr end (EndsEarly who call old new) → result ≡ answer_of end → IfOk result (λ given. Answers who call given old new)
+answered-ok who call old new (Ok given) result ok err is = rw is ok
+answered-ok who call old new (Err (fault.Full full)) result ok err is = rw is err
+answered-ok who call old new (Err fault.Memory) result ok err is = rw is tt
+
+pub answered-err : (who : Who) (call : Call) (old new : View) (end : Result Reply FaultInError) (result : Result Reply AllocError) → IfErr end (EndsEarly who call old new) → result ≡ answer_of end
+    → OnErr result (Stops who call old new)
+answered-err who call old new (Ok given) result err is = rw is tt
+answered-err who call old new (Err (fault.Full full)) result err is = rw is tt
+answered-err who call old new (Err fault.Memory) result err is = rw is err

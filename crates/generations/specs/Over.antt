@@ -15,6 +15,7 @@ use Rattle.cas_model.specs.Object.{digest_of}
 use Rattle.cas_model.specs.State.{State, HasAll, Member, has}
 use Rattle.cas_history.specs.Conduct.{AreThere, CallOpen, is_shallow, missed}
 use Rattle.cas_history.specs.Cost.{AreOfTree, Row, asked, rows_cost}
+use Rattle.cell_port.specs.Calls.{IsLawful}
 use Rattle.cell_port.specs.View.{View}
 use Rattle.fault_in.specs.declared.error.FaultInError.{FaultInError}
 use Rattle.fault_in.specs.declared.error.FaultInError.TheVariants as fault
@@ -115,6 +116,7 @@ pub record LacksOne (refs : List Digest) (v : View) : Type 0 where
 
 -- the call missed one of the references, which the upstream has
 pub record HasMissedOne (who : Who) (refs : List Digest) (old new : View) : Type 0 where
+  pub lawful : IsLawful old new
   pub one : LacksOne refs old
   pub missed : missed new.start who is_shallow new.seen ≡ true
 
@@ -134,6 +136,7 @@ pub record SeeksRefs (who : Who) (all refs : List Digest) (lacking : Bool) (old 
 
 -- a reference is absent, which decides the call
 pub record IsAbsent (who : Who) (all : List Digest) (old new : View) (i : ℕ) (digest : Digest) : Type 0 where
+  pub lawful : IsLawful old new
   pub ends : (bytes : List ℕ) → Ends who (Store (object_with all bytes)) (Some (reply.Dangling i digest)) old new 0
   pub last : (bytes : List ℕ) → Last (ref_note who i) (Store (object_with all bytes)) (Some (reply.Dangling i digest)) new
 
@@ -164,11 +167,15 @@ pub record HasRefsIn (who : Who) (refs : List Digest) (old new : View) : Type 0 
   pub brings : BringsRefs who refs refs old new
   pub found : AreThere new.upstream new.start new.seen who 0 refs
 
+-- the call of each object with these references is answered
+pub record AnswersRefs (who : Who) (refs : List Digest) (old new : View) (given : Reply) : Type 0 where
+  pub lawful : IsLawful old new
+  pub answers : (first : View) (bytes : List ℕ) → IsUnderWay who (Store (object_with refs bytes)) first old → Answers who (Store (object_with refs bytes)) given first new
+
 -- the references are in, or the call is answered
 abbrev pub SettlesRefs : Who → List Digest → View → View → Option Reply → Type 0
 SettlesRefs who refs old new None = HasRefsIn who refs old new
-SettlesRefs who refs old new (Some given) =
-    (first : View) (bytes : List ℕ) → IsUnderWay who (Store (object_with refs bytes)) first old → Answers who (Store (object_with refs bytes)) given first new
+SettlesRefs who refs old new (Some given) = AnswersRefs who refs old new given
 
 abbrev pub SettleStops : Who → List Digest → View → View → FaultInError → Type 0
 SettleStops who refs old new error =

@@ -65,10 +65,9 @@ pub(crate) fn store_over<P: CellPort>(
 {
     let digest = Digest::of(refs, data);
     if has_object(up, &digest) {
-        store_known(alloc, port, who, up, refs, &digest)
-    } else {
-        store_new(alloc, port, who, up, refs, data)
+        return store_known(alloc, port, who, up, refs, &digest);
     }
+    store_new(alloc, port, who, up, refs, data)
 }
 
 // Stores an object that the upstream lacks. References are brought in only where the store misses one that the upstream
@@ -115,7 +114,7 @@ fn store_known<P: CellPort>(
     requires known { has (primary up.now.tables) digest.now ≡ true }
     ensures ok { IfOk result (AnswersKnown who refs.now digest.now (P.view port.old) (P.view port.new)) }
     ensures err { IfErr result (KnownEndsEarly who refs.now digest.now (P.view port.old) (P.view port.new)) }
-    ensures lawful { IsLawfulOrSame (P.view port.old) (P.view port.new) }
+    ensures lawful { IsLawful (P.view port.old) (P.view port.new) }
 {
     if let Some(reply) = settle_refs(alloc, port, who, up, refs)? {
         return Ok(reply);
@@ -149,6 +148,7 @@ fn settle_refs<P: CellPort>(
     ensures ok { IfOk result (SettlesRefs who refs.now (P.view port.old) (P.view port.new)) }
     ensures err { IfErr result (SettleStops who refs.now (P.view port.old) (P.view port.new)) }
     ensures lawful { IsLawfulOrSame (P.view port.old) (P.view port.new) }
+    ensures asked { OnErr result (IsLawful (P.view port.old) (P.view port.new)) }
 {
     match find_refs(port, who, up, refs)? {
         FoundRefs::All => Ok(None),
@@ -184,6 +184,7 @@ fn find_refs<P: CellPort>(
     ensures ok { IfOk result (FindsRefs who refs.now (P.view port.old) (P.view port.new)) }
     ensures err { OnErr result (FindStops who refs.now (P.view port.old) (P.view port.new)) }
     ensures lawful { IsLawfulOrSame (P.view port.old) (P.view port.new) }
+    ensures asked { OnErr result (IsLawful (P.view port.old) (P.view port.new)) }
 {
     let mut lacking = false;
     for (index, digest) in refs.iter().enumerate() {

@@ -1,5 +1,5 @@
 // The four calls of a store, over any port.
-ghost use Rattle.std.specs.Prelude.{◌≡◌, ◌≤◌, length, IfOk, OnErr};
+ghost use Rattle.std.specs.Prelude.{◌≡◌, ◌≤◌, length, IfOk, OnErr, option_copied};
 ghost use Rattle.cas_model.specs.declared.call.Call.TheVariants.{Store, Load, Put, Get};
 ghost use Rattle.cell_port.specs.Calls.{IsLawful};
 ghost use Rattle.graph_db.specs.Events.{SpeaksFor};
@@ -40,7 +40,7 @@ impl Unified<'_> {
         refs: &[Digest],
         data: &[u8],
     ) -> Result<Reply, AllocError>
-        requires upstream { (P.view port.old).upstream ≡ upstream_state self.now.up }
+        requires upstream { (P.view port.old).upstream ≡ upstream_state (option_copied self.now.up) }
         requires speaks { SpeaksFor (P.view port.old) who }
         requires few_refs { length refs.now ≤ 65535 }
         requires short { length «data».now ≤ 16777215 }
@@ -62,7 +62,7 @@ impl Unified<'_> {
         who: Who,
         digest: &Digest,
     ) -> Result<Reply, AllocError>
-        requires upstream { (P.view port.old).upstream ≡ upstream_state self.now.up }
+        requires upstream { (P.view port.old).upstream ≡ upstream_state (option_copied self.now.up) }
         requires speaks { SpeaksFor (P.view port.old) who }
         ensures ok { IfOk result (λ reply. Answers who (Load digest.now) reply (P.view port.old) (P.view port.new)) }
         ensures err { OnErr result (LoadStops who digest.now (P.view port.old) (P.view port.new)) }
@@ -83,7 +83,7 @@ impl Unified<'_> {
         key: &Digest,
         value: &Digest,
     ) -> Result<Reply, AllocError>
-        requires upstream { (P.view port.old).upstream ≡ upstream_state self.now.up }
+        requires upstream { (P.view port.old).upstream ≡ upstream_state (option_copied self.now.up) }
         requires speaks { SpeaksFor (P.view port.old) who }
         ensures ok { IfOk result (λ reply. Answers who (Put key.now value.now) reply (P.view port.old) (P.view port.new)) }
         ensures err { OnErr result (Stops who (Put key.now value.now) (P.view port.old) (P.view port.new)) }
@@ -103,7 +103,7 @@ impl Unified<'_> {
         who: Who,
         key: &Digest,
     ) -> Result<Reply, AllocError>
-        requires upstream { (P.view port.old).upstream ≡ upstream_state self.now.up }
+        requires upstream { (P.view port.old).upstream ≡ upstream_state (option_copied self.now.up) }
         requires speaks { SpeaksFor (P.view port.old) who }
         ensures ok { IfOk result (λ reply. Answers who (Get key.now) reply (P.view port.old) (P.view port.new)) }
         ensures err { OnErr result (Stops who (Get key.now) (P.view port.old) (P.view port.new)) }
