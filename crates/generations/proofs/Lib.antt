@@ -1,4 +1,9 @@
-pub mod Alone
+pub mod AloneLemmas
+pub mod UnderWay
+pub mod LoadsOver
+pub mod GetsOver
+pub mod PutsOver
+pub mod StoresOver
 pub mod NameLemmas
 pub mod ChainLemmas
 pub mod OpeningLemmas

@@ -18,6 +18,7 @@ use Rattle.cell_port.specs.View.{View}
 use Rattle.graph_db.specs.declared.error.StoreError.{StoreError}
 use Rattle.graph_db.specs.declared.error.StoreError.TheVariants.{Dangling, Full, Memory}
 use Rattle.graph_db.specs.Events.{CallDecided, Goes, Last}
+use Rattle.generations.specs.Upstream.{NeedsTree}
 
 -- what the call claimed, and was refused, is within its cost
 pub record CostsAtMost (who : Who) (call : Call) (old new : View) : Type 0 where
@@ -35,9 +36,10 @@ pub record Answers (who : Who) (call : Call) (given : Reply) (old new : View) : 
   pub own : note.who ≡ who
   pub last : Last note call (Some given) new
 
--- the port wanted memory: events of the call were added, which keep conduct and do not decide it. Blocks that it claimed may have stayed open
+-- memory was wanted, by a port that takes memory or where an object had to be brought in: events of the call were added, which keep conduct and do not
+-- decide it. Blocks that it claimed may have stayed open
 pub record Stops (who : Who) (call : Call) (old new : View) : Type 0 where
-  pub takes : IsTrue old.takes_memory
+  pub takes : IsTrue old.takes_memory ⊎ NeedsTree call old
   pub left : List OpenBlock
   pub opened : new.opened ≡ left ++ old.opened
   pub goes : Goes who old (record new { opened = old.opened })
@@ -45,7 +47,7 @@ pub record Stops (who : Who) (call : Call) (old new : View) : Type 0 where
       → CallOpen new.upstream new.start calls who new.seen
   pub cost : CostsAtMost who call old new
 
--- the port wanted memory; or there was none for the object, after its load was decided
+-- memory was wanted; or there was none for the object, after its load was decided
 abbrev pub LoadStops : Who → Digest → View → View → Type 0
 LoadStops who digest old new = Stops who (Load digest) old new ⊎ ((o : Object) × Answers who (Load digest) (reply.Found o) old new)
 

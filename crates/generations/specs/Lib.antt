@@ -1,5 +1,6 @@
 pub mod Answers
 pub mod Upstream
+pub mod Over
 pub mod Names
 pub mod Chain
 pub mod FolderState

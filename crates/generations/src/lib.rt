@@ -2,15 +2,19 @@
 //! that keeps them.
 #![tactic(auto)]
 
+mod alone;
 mod chain;
 #[cfg(test)]
 mod folder_tests;
+mod keeping;
 mod laws;
 mod names;
 mod opening;
 mod pruning;
+mod replies;
 mod rotating;
 mod saving;
+mod storing;
 #[cfg(test)]
 mod tests;
 mod unified;

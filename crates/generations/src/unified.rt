@@ -1,24 +1,29 @@
 // The four calls of a store, over any port.
-ghost use Rattle.std.specs.Prelude.{◌≡◌, ◌≤◌, None, length, IfOk, OnErr};
-ghost use Rattle.cas_model.specs.State.{empty_state};
+ghost use Rattle.std.specs.Prelude.{◌≡◌, ◌≤◌, length, IfOk, OnErr, option_copied};
 ghost use Rattle.cas_model.specs.declared.call.Call.TheVariants.{Store, Load, Put, Get};
 ghost use Rattle.cell_port.specs.Calls.{IsLawful};
 ghost use Rattle.graph_db.specs.Events.{SpeaksFor};
 ghost use Rattle.graph_db.specs.Stores.{object_with};
-ghost use Rattle.generations.specs.Answers.{Answers, Stops, LoadStops, refusal_of};
+ghost use Rattle.generations.specs.Answers.{Answers, Stops, LoadStops};
+ghost use Rattle.generations.specs.Upstream.{upstream_state};
 
-use action_cache::{get, put};
+use crate::alone::{get_alone, load_alone, put_alone, store_alone};
+use crate::keeping::{get_over, put_over};
+use crate::replies::answered;
+use crate::storing::{load_over, store_over};
 use cas_model::{Digest, Reply, Who};
 use cell_port::CellPort;
 use frozen_store::Frozen;
-use graph_db::{StoreError, load, store};
 use std::alloc::{AllocError, Global};
 
-/// The object store and the action cache of a primary over its upstream, after LLVM's unified cache. There is no upstream
-/// yet.
+/// The object store and the action cache of a primary over its upstream, after LLVM's unified cache.
+///
+/// What is visible is what the primary has, and what the upstream has where the primary lacks it. What a call answers from
+/// the upstream it first brings into the primary: an object with its tree, and a key with its value's tree.
 ///
 /// Each call adds events of this call alone, the last of which decides it, and answers the reply that they decide. An error
-/// comes only from a port that takes memory, and from `load`, whose object could not be made.
+/// comes only from a port that takes memory, where something had to be brought in, and from `load`, whose object could not
+/// be made.
 #[derive(Clone, Copy)]
 pub struct Unified<'u> {
     /// The generation before the primary.
@@ -29,13 +34,13 @@ impl Unified<'_> {
     /// Stores an object: at most 65,535 references and 16,777,215 bytes. The reply is `Stored`, `Dangling` or `Full`.
     pub fn store<P: CellPort>(
         &self,
+        alloc: Global,
         port: &mut P,
         who: Who,
         refs: &[Digest],
         data: &[u8],
     ) -> Result<Reply, AllocError>
-        requires alone { self.now.up ≡ None }
-        requires upstream { (P.view port.old).upstream ≡ empty_state }
+        requires upstream { (P.view port.old).upstream ≡ upstream_state (option_copied self.now.up) }
         requires speaks { SpeaksFor (P.view port.old) who }
         requires few_refs { length refs.now ≤ 65535 }
         requires short { length «data».now ≤ 16777215 }
@@ -43,13 +48,13 @@ impl Unified<'_> {
         ensures err { OnErr result (Stops who (Store (object_with refs.now «data».now)) (P.view port.old) (P.view port.new)) }
         ensures lawful { IsLawful (P.view port.old) (P.view port.new) }
     {
-        match store(port, who, refs, data) {
-            Ok(digest) => Ok(Reply::Stored(digest)),
-            Err(error) => refused(error),
+        match self.up {
+            None => store_alone(port, who, refs, data),
+            Some(up) => answered(store_over(alloc, port, who, up, refs, data)),
         }
     }
 
-    /// Loads the object with this digest. The reply is `Found` or `Missing`.
+    /// Loads the object with this digest. The reply is `Found`, `Missing` or `Full`.
     pub fn load<P: CellPort>(
         &self,
         alloc: Global,
@@ -57,72 +62,56 @@ impl Unified<'_> {
         who: Who,
         digest: &Digest,
     ) -> Result<Reply, AllocError>
-        requires alone { self.now.up ≡ None }
-        requires upstream { (P.view port.old).upstream ≡ empty_state }
+        requires upstream { (P.view port.old).upstream ≡ upstream_state (option_copied self.now.up) }
         requires speaks { SpeaksFor (P.view port.old) who }
         ensures ok { IfOk result (λ reply. Answers who (Load digest.now) reply (P.view port.old) (P.view port.new)) }
         ensures err { OnErr result (LoadStops who digest.now (P.view port.old) (P.view port.new)) }
         ensures lawful { IsLawful (P.view port.old) (P.view port.new) }
     {
-        match load(alloc, port, who, digest)? {
-            Some(object) => Ok(Reply::Found(object)),
-            None => Ok(Reply::Missing),
+        match self.up {
+            None => load_alone(alloc, port, who, digest),
+            Some(up) => answered(load_over(alloc, port, who, up, digest)),
         }
     }
 
     /// Gives a key a value, where it has none. The reply is `Kept` with the value that it then has, `Dangling` or `Full`.
     pub fn put<P: CellPort>(
         &self,
+        alloc: Global,
         port: &mut P,
         who: Who,
         key: &Digest,
         value: &Digest,
     ) -> Result<Reply, AllocError>
-        requires alone { self.now.up ≡ None }
-        requires upstream { (P.view port.old).upstream ≡ empty_state }
+        requires upstream { (P.view port.old).upstream ≡ upstream_state (option_copied self.now.up) }
         requires speaks { SpeaksFor (P.view port.old) who }
         ensures ok { IfOk result (λ reply. Answers who (Put key.now value.now) reply (P.view port.old) (P.view port.new)) }
         ensures err { OnErr result (Stops who (Put key.now value.now) (P.view port.old) (P.view port.new)) }
         ensures lawful { IsLawful (P.view port.old) (P.view port.new) }
     {
-        match put(port, who, key, value) {
-            Ok(kept) => Ok(Reply::Kept(kept)),
-            Err(error) => refused(error),
+        match self.up {
+            None => put_alone(port, who, key, value),
+            Some(up) => answered(put_over(alloc, port, who, up, key, value)),
         }
     }
 
-    /// Gets the value of a key. The reply is `Hit` or `Miss`.
+    /// Gets the value of a key. The reply is `Hit`, `Miss` or `Full`.
     pub fn get<P: CellPort>(
         &self,
+        alloc: Global,
         port: &mut P,
         who: Who,
         key: &Digest,
     ) -> Result<Reply, AllocError>
-        requires alone { self.now.up ≡ None }
-        requires upstream { (P.view port.old).upstream ≡ empty_state }
+        requires upstream { (P.view port.old).upstream ≡ upstream_state (option_copied self.now.up) }
         requires speaks { SpeaksFor (P.view port.old) who }
         ensures ok { IfOk result (λ reply. Answers who (Get key.now) reply (P.view port.old) (P.view port.new)) }
         ensures err { OnErr result (Stops who (Get key.now) (P.view port.old) (P.view port.new)) }
         ensures lawful { IsLawful (P.view port.old) (P.view port.new) }
     {
-        match get(port, who, key)? {
-            Some(value) => Ok(Reply::Hit(value)),
-            None => Ok(Reply::Miss),
+        match self.up {
+            None => get_alone(port, who, key),
+            Some(up) => answered(get_over(alloc, port, who, up, key)),
         }
-    }
-}
-
-// A refusal as a reply.
-fn refused(error: StoreError) -> Result<Reply, AllocError>
-    ensures { result ≡ refusal_of error }
-{
-    match error {
-        StoreError::Dangling { index, digest } => Ok(Reply::Dangling { index, digest }),
-        StoreError::Full(full) => Ok(Reply::Full {
-            at: full.at,
-            asked: full.asked,
-            size: full.size,
-        }),
-        StoreError::Memory => Err(AllocError),
     }
 }

@@ -1,9 +1,9 @@
--- what the get leaves, as one call
-use Rattle.generations.proofs.Alone.{missed, get-stops, on-error}
+-- what the get leaves, as its reply
+use Rattle.generations.proofs.UnderWay.{answered-ok, answered-err}
 use Rattle.generations.proofs.unified.Unified.get.Goals as goal
 
-pub returns-in_err-value-clause-err : goal.returns-in_err-value-clause-err
-returns-in_err-value-clause-err g c = on-error _ (get-stops _ _ _ _ c.in_err-value.ensures.err)
+pub returns-in-Some-clause-ok : goal.returns-in-Some-clause-ok
+returns-in-Some-clause-ok g c = answered-ok _ _ _ _ c.get_over.result _ c.get_over.ensures.ok c.get_over.ensures.err c.answered.ensures
 
-pub returns-in-None-clause-ok : goal.returns-in-None-clause-ok
-returns-in-None-clause-ok g c = missed _ _ (g.P.CellPort.view c.args.port.now) _ c.requires.upstream (rw c.in-None.is at c.in_ok-value.ensures.ok)
+pub returns-in-Some-clause-err : goal.returns-in-Some-clause-err
+returns-in-Some-clause-err g c = answered-err _ _ _ _ c.get_over.result _ c.get_over.ensures.err c.answered.ensures

@@ -1,6 +1,9 @@
--- what the load leaves, as one call
-use Rattle.generations.proofs.Alone.{missing}
+-- what the load leaves, as its reply
+use Rattle.generations.proofs.LoadsOver.{answered-load-ok, answered-load-err}
 use Rattle.generations.proofs.unified.Unified.load.Goals as goal
 
-pub returns-in-None-clause-ok : goal.returns-in-None-clause-ok
-returns-in-None-clause-ok g c = missing _ _ (g.P.CellPort.view c.args.port.now) _ c.requires.upstream (rw c.in-None.is at c.in_ok-object.ensures.ok)
+pub returns-in-Some-clause-ok : goal.returns-in-Some-clause-ok
+returns-in-Some-clause-ok g c = answered-load-ok _ _ _ _ c.load_over.result _ c.load_over.ensures.ok c.load_over.ensures.err c.answered.ensures
+
+pub returns-in-Some-clause-err : goal.returns-in-Some-clause-err
+returns-in-Some-clause-err g c = answered-load-err _ _ _ _ c.load_over.result _ c.load_over.ensures.err c.answered.ensures

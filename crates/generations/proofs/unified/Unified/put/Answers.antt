@@ -1,15 +1,9 @@
--- what the put leaves, as one call
-use Rattle.generations.proofs.Alone.{no-value, kept, put-answered, put-stopped}
+-- what the put leaves, as its reply
+use Rattle.generations.proofs.UnderWay.{answered-ok, answered-err}
 use Rattle.generations.proofs.unified.Unified.put.Goals as goal
 
-pub put-requires-clause-lacks : goal.put-requires-clause-lacks
-put-requires-clause-lacks g c = no-value _ _ c.requires.upstream
+pub returns-in-Some-clause-ok : goal.returns-in-Some-clause-ok
+returns-in-Some-clause-ok g c = answered-ok _ _ _ _ c.put_over.result _ c.put_over.ensures.ok c.put_over.ensures.err c.answered.ensures
 
-pub returns-in-Ok-clause-ok : goal.returns-in-Ok-clause-ok
-returns-in-Ok-clause-ok g c = kept _ _ _ _ _ _ c.in-Ok.ensures.ok
-
-pub returns-in-Err-clause-ok : goal.returns-in-Err-clause-ok
-returns-in-Err-clause-ok g c = put-answered _ _ _ (g.P.CellPort.view c.args.port.now) _ c.in-Err.error _ c.requires.upstream c.in-Err.ensures.err c.refused.ensures
-
-pub returns-in-Err-clause-err : goal.returns-in-Err-clause-err
-returns-in-Err-clause-err g c = put-stopped _ _ _ _ _ c.in-Err.error _ c.in-Err.ensures.err c.refused.ensures
+pub returns-in-Some-clause-err : goal.returns-in-Some-clause-err
+returns-in-Some-clause-err g c = answered-err _ _ _ _ c.put_over.result _ c.put_over.ensures.err c.answered.ensures

@@ -1,15 +1,9 @@
--- what the store leaves, as one call
-use Rattle.generations.proofs.Alone.{brought, stored, store-answered, store-stopped}
+-- what the store leaves, as its reply
+use Rattle.generations.proofs.UnderWay.{answered-ok, answered-err}
 use Rattle.generations.proofs.unified.Unified.store.Goals as goal
 
-pub store-requires-clause-brought : goal.store-requires-clause-brought
-store-requires-clause-brought g c = brought (g.P.CellPort.view c.args.port.now) _ c.requires.upstream
+pub returns-in-Some-clause-ok : goal.returns-in-Some-clause-ok
+returns-in-Some-clause-ok g c = answered-ok _ _ _ _ c.store_over.result _ c.store_over.ensures.ok c.store_over.ensures.err c.answered.ensures
 
-pub returns-in-Ok-clause-ok : goal.returns-in-Ok-clause-ok
-returns-in-Ok-clause-ok g c = stored _ _ _ _ _ c.in-Ok.ensures.ok
-
-pub returns-in-Err-clause-ok : goal.returns-in-Err-clause-ok
-returns-in-Err-clause-ok g c = store-answered _ _ (g.P.CellPort.view c.args.port.now) _ c.in-Err.error _ c.requires.upstream c.in-Err.ensures.err c.refused.ensures
-
-pub returns-in-Err-clause-err : goal.returns-in-Err-clause-err
-returns-in-Err-clause-err g c = store-stopped _ _ _ _ c.in-Err.error _ c.in-Err.ensures.err c.refused.ensures
+pub returns-in-Some-clause-err : goal.returns-in-Some-clause-err
+returns-in-Some-clause-err g c = answered-err _ _ _ _ c.store_over.result _ c.store_over.ensures.err c.answered.ensures

@@ -65,7 +65,7 @@ lacking who call given old new there note none ends own last =
 
 stops : (who : Who) (call : Call) (old new : View) (n : ℕ) → n ≤ own_cost call → graph.Stops who call old new n → Stops who call old new
 stops who call old new n most h = record {
-  takes = h.takes;
+  takes = inl h.takes;
   left = h.left;
   opened = h.opened;
   goes = h.ends.goes;
@@ -78,7 +78,7 @@ ended : (who : Who) (call : Call) (old new : View) (n : ℕ) → n ≤ own_cost 
 ended who call old new n most takes ends =
     let same : new.opened ≡ old.opened = ap (λ (v : View). v.opened) ends.goes.is in
     record {
-      takes = takes;
+      takes = inl takes;
       left = [];
       opened = same;
       goes = record { more = ends.goes.more; is = ap (λ (v : View). record v { opened = old.opened }) ends.goes.is; own = ends.goes.own };
