@@ -3,7 +3,7 @@ ghost use Rattle.std.specs.Prelude.{◌≡◌, ◌≤◌, length};
 
 use crate::Unified;
 use cas_model::{Digest, NoUpstream, Note, Reply, Stage, Who};
-use cell_port::{CellPort, PlainPort};
+use cell_port::PlainPort;
 use frozen_store::Frozen;
 use graph_db::holds;
 use std::alloc::{AllocError, Global};
@@ -89,7 +89,7 @@ struct Tree {
     beside: Digest,
 }
 
-fn tree() -> Tree {
+fn its_digests() -> Tree {
     let leaf = Digest::of(&[], b"leaf");
     let node = Digest::of(&[leaf], b"node");
     Tree {
@@ -103,7 +103,7 @@ fn tree() -> Tree {
 // The closed region with the tree, and with its node as the value of a key; where it fits and memory is found.
 fn upstream(alloc: Global, key: &Digest) -> Result<Option<Frozen>, AllocError> {
     let mut port = PlainPort::new(alloc, 4096)?;
-    let tree = tree();
+    let tree = its_digests();
     store_in(alloc, &mut port, call(0), &[], b"leaf")?;
     store_in(alloc, &mut port, call(1), &[tree.leaf], b"node")?;
     store_in(alloc, &mut port, call(2), &[tree.node, tree.leaf], b"top")?;
@@ -134,7 +134,7 @@ fn in_primary<'u>(
 fn a_load_brings_its_tree_in(rt: HostRuntime) -> Result<(), Fail> {
     let up = upstream(rt.alloc(), &ABSENT)?.expect(&rt, "it fits");
     let mut port = PlainPort::new(rt.alloc(), 4096)?.under(&up);
-    let tree = tree();
+    let tree = its_digests();
     let unified = Unified { up: Some(&up) };
     match unified.load(rt.alloc(), &mut port, call(0), &tree.top)? {
         Reply::Found(object) => assert_eq!(rt; object.data.list(), b"top".as_slice()),
@@ -149,7 +149,7 @@ fn a_get_brings_its_key_and_the_tree_in(rt: HostRuntime) -> Result<(), Fail> {
     let key = Digest::of_key(b"k");
     let up = upstream(rt.alloc(), &key)?.expect(&rt, "it fits");
     let mut port = PlainPort::new(rt.alloc(), 4096)?.under(&up);
-    let tree = tree();
+    let tree = its_digests();
     let hit = Unified { up: Some(&up) }.get(rt.alloc(), &mut port, call(0), &key)?;
     assert_eq!(rt; digest_in(hit), Some(tree.node));
     assert_eq!(rt; in_primary(&mut port, &tree)?, (true, true, false, false));
@@ -165,7 +165,7 @@ fn the_upstream_value_wins(rt: HostRuntime) -> Result<(), Fail> {
     let key = Digest::of_key(b"k");
     let up = upstream(rt.alloc(), &key)?.expect(&rt, "it fits");
     let mut port = PlainPort::new(rt.alloc(), 4096)?.under(&up);
-    let tree = tree();
+    let tree = its_digests();
     let unified = Unified { up: Some(&up) };
     let kept = unified.put(rt.alloc(), &mut port, call(0), &key, &tree.beside)?;
     assert_eq!(rt; digest_in(kept), Some(tree.node));
@@ -177,7 +177,7 @@ fn the_upstream_value_wins(rt: HostRuntime) -> Result<(), Fail> {
 fn a_put_brings_its_value_in(rt: HostRuntime) -> Result<(), Fail> {
     let up = upstream(rt.alloc(), &ABSENT)?.expect(&rt, "it fits");
     let mut port = PlainPort::new(rt.alloc(), 4096)?.under(&up);
-    let tree = tree();
+    let tree = its_digests();
     let key = Digest::of_key(b"k");
     let unified = Unified { up: Some(&up) };
     let kept = unified.put(rt.alloc(), &mut port, call(0), &key, &tree.top)?;
@@ -190,7 +190,7 @@ fn a_put_brings_its_value_in(rt: HostRuntime) -> Result<(), Fail> {
 fn a_store_brings_its_references_in(rt: HostRuntime) -> Result<(), Fail> {
     let up = upstream(rt.alloc(), &ABSENT)?.expect(&rt, "it fits");
     let mut port = PlainPort::new(rt.alloc(), 4096)?.under(&up);
-    let tree = tree();
+    let tree = its_digests();
     let unified = Unified { up: Some(&up) };
     let stored = unified.store(rt.alloc(), &mut port, call(0), &[tree.node], b"new")?;
     assert_eq!(rt; digest_in(stored), Some(Digest::of(&[tree.node], b"new")));
@@ -202,7 +202,7 @@ fn a_store_brings_its_references_in(rt: HostRuntime) -> Result<(), Fail> {
 fn a_store_brings_what_the_upstream_has(rt: HostRuntime) -> Result<(), Fail> {
     let up = upstream(rt.alloc(), &ABSENT)?.expect(&rt, "it fits");
     let mut port = PlainPort::new(rt.alloc(), 4096)?.under(&up);
-    let tree = tree();
+    let tree = its_digests();
     let refs = [tree.node, tree.leaf];
     let stored = Unified { up: Some(&up) }.store(rt.alloc(), &mut port, call(0), &refs, b"top")?;
     assert_eq!(rt; digest_in(stored), Some(tree.top));
@@ -214,7 +214,7 @@ fn a_store_brings_what_the_upstream_has(rt: HostRuntime) -> Result<(), Fail> {
 fn what_the_upstream_lacks_too_is_dangling(rt: HostRuntime) -> Result<(), Fail> {
     let up = upstream(rt.alloc(), &ABSENT)?.expect(&rt, "it fits");
     let mut port = PlainPort::new(rt.alloc(), 4096)?.under(&up);
-    let tree = tree();
+    let tree = its_digests();
     let refs = [tree.leaf, ABSENT];
     match (Unified { up: Some(&up) }).store(rt.alloc(), &mut port, call(0), &refs, &[])? {
         Reply::Dangling { index, digest } => assert_eq!(rt; (index, digest), (1, ABSENT)),
