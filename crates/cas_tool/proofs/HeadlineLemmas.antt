@@ -27,6 +27,7 @@ use Rattle.cas_tool.specs.Closing.{IsImageDue, IsImageOf}
 use Rattle.cas_tool.specs.Front.{NotReached, closed_of, front_run, run_of}
 use Rattle.cas_tool.specs.Headline.{ComesAfterSave, HasHeadline, IsPrimaryState, RunsFrom, RunsTo, RunsToTold}
 use Rattle.cas_tool.specs.Run.{Because, IsSaved, Outside, Prepares, Refuses, RunPrepares, World}
+use Rattle.cas_tool.specs.Words.{first_size}
 use Rattle.cas_tool.proofs.RunLemmas.{IsOfReply, of-refused}
 use Rattle.cas_tool.proofs.ShownLemmas.{HasRun, shows-run}
 
@@ -174,7 +175,7 @@ prepares-to :
     (files : Files) (words : List (String Global)) (before after : Outside) (front : Front) (output : Output) → before.folder.files ≡ Some files → Prepares words before after front output
     → (run : Run) → front_run front ≡ Some run → RunsToTold files after.folder.files run
 prepares-to files words before after front output told h run is = elim h.is [
-  | inl task ↦ runs-to files before.folder told front (string_bytes h.dir) h.request.options.size task.work after.folder output task.prepares run is
+  | inl task ↦ runs-to files before.folder told front (string_bytes h.dir) (first_size h.request.options) task.work after.folder output task.prepares run is
   | inr check ↦ absurd (let two : None ≡ Some run = sym check.no_run ∙ is in cc two)
 ]
 

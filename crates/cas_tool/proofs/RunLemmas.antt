@@ -1,6 +1,6 @@
 -- Which answers come of what, and what words that were read ask for.
 use Rattle.std.proofs.Common.{IfOk, IfErr, Ok, get_or, ◌≡◌, ℕ, ◌<◌, ◌≤◌, inl, inr, List, [], ◌∷◌, length, Bool, true, false, cond, Some, None, refl, ap, sym, subst, Err, arith}
-use Rattle.std.specs.Prelude.{String, codes}
+use Rattle.std.specs.Prelude.{String, codes, unwrap_or}
 use Rattle.std.specs.String.{string_bytes}
 use Rattle.std.specs.declared.alloc.Global.{Global}
 use Rattle.std.specs.declared.option.Option.{Option}
@@ -24,7 +24,9 @@ use Rattle.sessions.specs.declared.script.Line.TheVariants.{Store, Load, Put, Ge
 use Rattle.sessions.specs.declared.script.Script.{Script}
 use Rattle.cas_tool.specs.declared.answer.Answer.{Answer}
 use Rattle.cas_tool.specs.declared.answer.Answer.TheVariants.{Done, Missing, Usage, ReadFault, WriteFault, FolderFault, Damaged, Full, Poisoned, Dangling, BadScript, Held, TooLarge, NoMemory}
+use Rattle.cas_tool.specs.declared.command.Options.{Options}
 use Rattle.cas_tool.specs.declared.command.Request.{Request}
+use Rattle.cas_tool.specs.declared.command.Setting.TheVariants.{Size}
 use Rattle.cas_tool.specs.declared.command.Task.{Task}
 use Rattle.cas_tool.specs.declared.command.Task.TheVariants.{Once, Batch, Workload, Validate}
 use Rattle.cas_tool.specs.declared.command.Verb.{Verb}
@@ -41,7 +43,7 @@ use Rattle.cas_tool.specs.Made.{IsOneCall, IsOneCallFor}
 use Rattle.cas_tool.specs.Opening.{OpenCause, OpeningStops}
 use Rattle.cas_tool.specs.Output.{Reports, call_of, refusal_of}
 use Rattle.cas_tool.specs.Run.{Ask, Because, Ends, Outside, Prepares, Refuses, RunPrepares, RunRefuses, SavingStops, ValidatePrepares, ValidateRefuses, WordsRefused, World, save_answer}
-use Rattle.cas_tool.specs.Words.{BeginWith, IsNamedBy, IsSet, dir_of, is_word, task_of, verb_of}
+use Rattle.cas_tool.specs.Words.{BeginWith, HaveOptions, IsGiven, IsNamedBy, dir_of, first_size, is_word, task_of, values_of, verb_of}
 use Rattle.cas_tool.specs.Work.{IsTaskWithin, IsWork, Source, TaskStops}
 
 -- ---- answers of a reply
@@ -366,10 +368,15 @@ saving-stops number due image bytes old new result error is same saves failed = 
 }
 
 -- the size that is set lies within its limits
-pub size-within : (values : List (String Global)) (size : ℕ) → IsSet 4096 67108864 4194304 values size → (4096 ≤ size) × (size ≤ 67108864)
-size-within [] size h = (omega (arith, h), omega (arith, h))
-size-within (value ∷ []) size h = (h.low, h.high)
-size-within (value ∷ other ∷ values) size h = absurd h
+size-given : (values : List (String Global)) (size : Option ℕ) → IsGiven 4096 67108864 values size → (4096 ≤ unwrap_or size 4194304) × (unwrap_or size 4194304 ≤ 67108864)
+size-given [] None h = (omega arith, omega arith)
+size-given [] (Some number) h = cc h
+size-given (value ∷ []) None h = absurd h
+size-given (value ∷ []) (Some number) h = (h.low, h.high)
+size-given (value ∷ other ∷ values) size h = absurd h
+
+pub size-within : (words : List (String Global)) (options : Options) → HaveOptions words options → (4096 ≤ first_size options) × (first_size options ≤ 67108864)
+size-within words options have = size-given (values_of Size words) options.size have.size
 
 -- ---- the whole run
 
@@ -400,51 +407,51 @@ dir-named [] dir other long is = absurd (omega (arith, long))
 dir-named (cas ∷ []) dir other long is = absurd (omega (arith, long))
 dir-named (cas ∷ own ∷ words) dir other long is = ap Some (sym is)
 
-module _ (words : List (String Global)) (request : Request) (dir : String Global) (path : List ℕ) (ask : Ask words request dir) (is : path ≡ string_bytes dir) where
+module _ (words : List (String Global)) (request : Request) (dir : String Global) (path : List ℕ) (size : ℕ) (ask : Ask words request dir) (is : path ≡ string_bytes dir) (size_is : size ≡ first_size request.options) where
   pub check-prepares :
       (before : Outside) (folder : FolderView) (front : Front) (result : Result Output Answer) → request.task ≡ Validate → NotReached front
-      → IfOk result (λ output. ValidatePrepares path request.options.size before.folder folder output)
+      → IfOk result (λ output. ValidatePrepares path size before.folder folder output)
       → IfOk result (λ output. Prepares words before (record { source = before.source; folder = folder }) front output)
   check-prepares before folder front (Err given) task none h = tt
   check-prepares before folder front (Ok output) task none h = record {
     request = request;
     dir = dir;
     ask = ask;
-    is = inr (record { task_is = task; unread = refl; no_run = none; prepares = subst (λ (bs : List ℕ). ValidatePrepares bs request.options.size before.folder folder output) is h });
+    is = inr (record { task_is = task; unread = refl; no_run = none; prepares = subst (λ (bs : List ℕ). ValidatePrepares bs (first_size request.options) before.folder folder output) is (subst (λ (n : ℕ). ValidatePrepares path n before.folder folder output) size_is h) });
   }
 
   pub check-refuses :
       (before : Outside) (folder : FolderView) (front : Front) (result : Result Output Answer) → request.task ≡ Validate → NotReached front
-      → IfErr result (λ answer. ValidateRefuses path request.options.size before.folder folder answer)
+      → IfErr result (λ answer. ValidateRefuses path size before.folder folder answer)
       → IfErr result (λ answer. Refuses words before (record { source = before.source; folder = folder }) front answer)
   check-refuses before folder front (Ok output) task none h = tt
   check-refuses before folder front (Err given) task none h = inr (record {
     request = request;
     dir = dir;
     ask = ask;
-    is = inr (inr (record { task_is = task; unread = refl; no_run = none; refuses = subst (λ (bs : List ℕ). ValidateRefuses bs request.options.size before.folder folder given) is h }));
+    is = inr (inr (record { task_is = task; unread = refl; no_run = none; refuses = subst (λ (bs : List ℕ). ValidateRefuses bs (first_size request.options) before.folder folder given) is (subst (λ (n : ℕ). ValidateRefuses path n before.folder folder given) size_is h) }));
   })
 
   pub task-prepares :
       (before after : Outside) (front : Front) (work : Work) (result : Result Output Answer) → IsWork request.task before.source after.source work
-      → IfOk result (λ output. RunPrepares path request.options.size work before.folder after.folder front output) → IfOk result (λ output. Prepares words before after front output)
+      → IfOk result (λ output. RunPrepares path size work before.folder after.folder front output) → IfOk result (λ output. Prepares words before after front output)
   task-prepares before after front work (Err given) is_work h = tt
   task-prepares before after front work (Ok output) is_work h = record {
     request = request;
     dir = dir;
     ask = ask;
-    is = inl (record { work = work; is_work = is_work; prepares = subst (λ (bs : List ℕ). RunPrepares bs request.options.size work before.folder after.folder front output) is h });
+    is = inl (record { work = work; is_work = is_work; prepares = subst (λ (bs : List ℕ). RunPrepares bs (first_size request.options) work before.folder after.folder front output) is (subst (λ (n : ℕ). RunPrepares path n work before.folder after.folder front output) size_is h) });
   }
 
   pub task-refuses :
       (before after : Outside) (front : Front) (work : Work) (result : Result Output Answer) → IsWork request.task before.source after.source work
-      → IfErr result (λ answer. RunRefuses path request.options.size work before.folder after.folder front answer) → IfErr result (λ answer. Refuses words before after front answer)
+      → IfErr result (λ answer. RunRefuses path size work before.folder after.folder front answer) → IfErr result (λ answer. Refuses words before after front answer)
   task-refuses before after front work (Ok output) is_work h = tt
   task-refuses before after front work (Err given) is_work h = inr (record {
     request = request;
     dir = dir;
     ask = ask;
-    is = inr (inl (record { work = work; is_work = is_work; refuses = subst (λ (bs : List ℕ). RunRefuses bs request.options.size work before.folder after.folder front given) is h }));
+    is = inr (inl (record { work = work; is_work = is_work; refuses = subst (λ (bs : List ℕ). RunRefuses bs (first_size request.options) work before.folder after.folder front given) is (subst (λ (n : ℕ). RunRefuses path n work before.folder after.folder front given) size_is h) }));
   })
 
   pub work-stops :

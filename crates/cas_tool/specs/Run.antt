@@ -33,7 +33,7 @@ use Rattle.cas_tool.specs.Made.{HasMade}
 use Rattle.cas_tool.specs.Opening.{HasOpened, OpeningStops}
 use Rattle.cas_tool.specs.Output.{IsText}
 use Rattle.cas_tool.specs.Validation.{valid_lines}
-use Rattle.cas_tool.specs.Words.{IsFirstBad, Names, NameNone, Reads, HaveWrongCount, HaveBadOperand, HaveTooMany, dir_of}
+use Rattle.cas_tool.specs.Words.{IsFirstBad, Names, NameNone, Reads, HaveWrongCount, HaveBadOperand, HaveTooMany, dir_of, first_size}
 use Rattle.cas_tool.specs.Work.{Source, source_with, IsWork, TaskStops}
 use Rattle.cas_tool.specs.Writing.{AppendsPart}
 
@@ -107,13 +107,13 @@ pub record ValidatePrepares (dir : List ℕ) (size : ℕ) (old new : FolderView)
 pub record TaskPrepares (request : Request) (dir : List ℕ) (before after : Outside) (front : Front) (output : Output) : Type 0 where
   pub work : Work
   pub is_work : IsWork request.task before.source after.source work
-  pub prepares : RunPrepares dir request.options.size work before.folder after.folder front output
+  pub prepares : RunPrepares dir (first_size request.options) work before.folder after.folder front output
 
 pub record CheckPrepares (request : Request) (dir : List ℕ) (before after : Outside) (front : Front) (output : Output) : Type 0 where
   pub task_is : request.task ≡ Validate
   pub unread : after.source ≡ before.source
   pub no_run : NotReached front
-  pub prepares : ValidatePrepares dir request.options.size before.folder after.folder output
+  pub prepares : ValidatePrepares dir (first_size request.options) before.folder after.folder output
 
 -- all was done but the writing
 pub record Prepares (words : List (String Global)) (before after : Outside) (front : Front) (output : Output) : Type 0 where
@@ -173,7 +173,7 @@ RunRefuses dir size work old new front answer =
 pub record TaskRefuses (request : Request) (dir : List ℕ) (before after : Outside) (front : Front) (answer : Answer) : Type 0 where
   pub work : Work
   pub is_work : IsWork request.task before.source after.source work
-  pub refuses : RunRefuses dir request.options.size work before.folder after.folder front answer
+  pub refuses : RunRefuses dir (first_size request.options) work before.folder after.folder front answer
 
 -- a check of the images stopped, or found no memory for its text
 pub record StopsChecking (dir : List ℕ) (size : ℕ) (old new : FolderView) (answer : Answer) : Type 0 where
@@ -188,7 +188,7 @@ pub record CheckRefuses (request : Request) (dir : List ℕ) (before after : Out
   pub task_is : request.task ≡ Validate
   pub unread : after.source ≡ before.source
   pub no_run : NotReached front
-  pub refuses : ValidateRefuses dir request.options.size before.folder after.folder answer
+  pub refuses : ValidateRefuses dir (first_size request.options) before.folder after.folder answer
 
 -- the work was not made ready, and the folder was not asked for
 pub record WorkStops (request : Request) (before after : Outside) (front : Front) (answer : Answer) : Type 0 where

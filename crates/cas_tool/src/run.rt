@@ -84,11 +84,12 @@ fn prepare<F: Folder, S: Source, G: Gate>(
     };
     let dir = words[1].as_str();
     let Request { task, options } = request;
+    let size = options.first_size();
     if let Task::Validate = task {
-        return (Front::none(), validate(alloc, folder, dir, options.size));
+        return (Front::none(), validate(alloc, folder, dir, size));
     }
     match work_of(alloc, task, source) {
-        Ok(work) => run_in_folder(alloc, folder, dir, options.size, work, gate),
+        Ok(work) => run_in_folder(alloc, folder, dir, size, work, gate),
         Err(answer) => (Front::none(), Err(answer)),
     }
 }
