@@ -120,12 +120,13 @@ ReadsFile (Some files) name most bytes = (file : List ℕ) × (fin.get files nam
 abbrev pub HasReadFile : FolderView → List ℕ → ℕ → List ℕ → Type 0
 HasReadFile v name most bytes = ReadsFile v.files name most bytes
 
+-- a folder that tells no files tells none after the call
 abbrev pub PutsFile : Option Files → Option Files → List ℕ → List ℕ → Type 0
-PutsFile None new name bytes = Unit {0}
+PutsFile None new name bytes = new ≡ None
 PutsFile (Some old) new name bytes = new ≡ Some (fin.insert old name bytes)
 
 abbrev pub RemovesFile : Option Files → Option Files → List ℕ → Type 0
-RemovesFile None new name = Unit {0}
+RemovesFile None new name = new ≡ None
 RemovesFile (Some old) new name = new ≡ Some (fin.remove old name)
 
 -- what `replace` leaves

@@ -23,6 +23,13 @@ two-same P Q to from p u h = record {
   upstream_is = highest-same P Q to from (unwrap_or p 0) u h.upstream_is;
 }
 
+-- there is one highest
+pub highest-once : (P : ℕ → Type 0) (bound : ℕ) (o q : Option ℕ) → IsHighestBelow P bound o → IsHighestBelow P bound q → o ≡ q
+highest-once P bound None None h k = refl
+highest-once P bound None (Some n) h k = absurd (h n k.1 k.0)
+highest-once P bound (Some m) None h k = absurd (k m h.1 h.0)
+highest-once P bound (Some m) (Some n) h k = (let low = h.2 n k.1 k.0 in let high = k.2 m h.1 h.0 in let same : m ≡ n = omega (arith, low, high) in ap Some same)
+
 -- ---- one number more
 
 module _ (P Q : ℕ → Type 0) (number : ℕ) (most : number ≤ 4294967295) (keep : (n : ℕ) → P n → Q n) (there : Q number) (only : (n : ℕ) → Q n → P n ⊎ (n ≡ number)) where
@@ -88,7 +95,7 @@ nothing-listed n (name, (k, below, is), named) = omega (arith, below)
 
 -- ---- the names of files
 
-counted : (names : List (List ℕ)) (name : List ℕ) → Contains names name → 1 ≤ count_by (λ n. pointwise nat_eq n name) names
+pub counted : (names : List (List ℕ)) (name : List ℕ) → Contains names name → 1 ≤ count_by (λ n. pointwise nat_eq n name) names
 counted names name (k, below, is) =
     let count = count_by (λ n. pointwise nat_eq n name) names in
     let least : cond (pointwise nat_eq (get_or names k name) name) 1 0 ≤ count = get_or-le-sum_by (λ n. cond (pointwise nat_eq n name) 1 0) names k name below in

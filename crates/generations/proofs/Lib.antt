@@ -2,4 +2,7 @@ pub mod Alone
 pub mod NameLemmas
 pub mod ChainLemmas
 pub mod OpeningLemmas
-pub mod StateLemmas
+pub mod FileLemmas
+pub mod ChainStates
+pub mod PruningLemmas
+pub mod RemovingLemmas

@@ -8,7 +8,7 @@ use Rattle.std.proofs.lemmas.List.{length-append}
 use Rattle.std.proofs.lemmas.List.Folds.{list_all-append}
 use Rattle.std.specs.declared.alloc.AllocError.{AllocError}
 use Rattle.std.specs.declared.result.Result.{Result}
-use Rattle.std.specs.Result.{IfOk, MatchResult, result_ok}
+use Rattle.std.specs.Result.{IfErr, IfOk, IsErrAnd, MatchResult, result_ok}
 use Rattle.cas_outside.specs.Folder.{MayAsk, is_name_byte}
 use Rattle.generations.specs.Names.{generation_name, IsNameOf}
 
@@ -53,3 +53,13 @@ no-value (Err e) P Q h is never = never e h
 pub a-value : {T E : Type 0} (r : Result T E) (P : T → Type 0) (Q : E → Type 0) (x : T) → MatchResult r P Q → result_ok r ≡ Some x → P x
 a-value (Ok y) P Q x h is = (let same : y ≡ x = cc (is) in subst P same h)
 a-value (Err e) P Q x h is = cc (is)
+
+-- ---- the error that a `?` makes
+
+pub err-made : {T E : Type 0} (r : Result T E) (e : E) (P : E → Type 0) → IsErrAnd r (λ x. x ≡ e) → P e → IfErr r P
+err-made (Ok x) e P made holds = tt
+err-made (Err x) e P made holds = subst P (sym made) holds
+
+pub err-is : {T E : Type 0} (r : Result T E) (e : E) → IsErrAnd r (λ x. x ≡ e) → r ≡ Err e
+err-is (Ok x) e made = absurd made
+err-is (Err x) e made = ap Err made

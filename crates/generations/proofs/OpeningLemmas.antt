@@ -13,7 +13,9 @@ use Rattle.image_file.specs.declared.error.ImageError.TheVariants as errors
 use Rattle.image_file.proofs.ImageLemmas.{lawful-read}
 use Rattle.generations.specs.Chain.{IsToldChain}
 use Rattle.generations.specs.Names.{generation_name}
-use Rattle.generations.specs.Opened.{HasDamage, HasImage, IsToldHighest, ReadFails, refusal_of}
+use Rattle.generations.specs.declared.opening.OpenError.{OpenError}
+use Rattle.generations.specs.declared.opening.OpenError.TheVariants.{Held, FolderFault, Damaged, Memory}
+use Rattle.generations.specs.Opened.{ChainFails, HasDamage, HasImage, IsRead, IsReadable, ReadFails, UpstreamFails, UpstreamIsThere, refusal_of}
 
 -- ---- the first bytes of a file
 
@@ -99,6 +101,43 @@ pub has-primary : (files : Option Files) (number : ℕ) (upstream : Option ℕ) 
 has-primary None number upstream h = tt
 has-primary (Some files) number upstream h = h.primary_is.0.there
 
-pub told-highest : (files : Option Files) (primary upstream : Option ℕ) → IsToldChain files primary upstream → IsToldHighest files primary
-told-highest None primary upstream h = tt
-told-highest (Some files) primary upstream h = h.primary_is
+-- so is the upstream, where there is one
+pub has-upstream : (files : Option Files) (primary upstream : Option ℕ) → IsToldChain files primary upstream → UpstreamIsThere files upstream
+has-upstream None primary None h = tt
+has-upstream None primary (Some number) h = tt
+has-upstream (Some files) primary None h = tt
+has-upstream (Some files) primary (Some number) h = h.upstream_is.0.there
+
+-- ---- the upstream
+
+readable : (files : Option Files) (number : ℕ) (frozen : FrozenSeen) → IsRead files number frozen → IsReadable files number
+readable None number frozen read = tt
+readable (Some files) number frozen read = (
+  primary frozen.tables,
+  record {
+    words = frozen.words;
+    size = frozen.tables.size;
+    file = read.image;
+    words_are = read.seen.words_are;
+    stands = read.seen.stands;
+  },
+)
+
+-- a refusal of the upstream, after the names were listed and the primary was read
+pub upstream-refused :
+    (old first mid new : FolderView) (highest upstream : Option ℕ) (number : ℕ) (frozen : FrozenSeen) (error : OpenError) → Calm old first → Calm first mid → IsToldChain old.files highest upstream
+    → highest ≡ Some number → IsRead first.files number frozen → UpstreamFails mid new upstream error → ChainFails old new error
+upstream-refused old first mid new highest None number frozen error listed calm chain is read fails = absurd fails
+upstream-refused old first mid new highest (Some up) number frozen Held listed calm chain is read fails = absurd fails
+upstream-refused old first mid new highest (Some up) number frozen FolderFault listed calm chain is read fails =
+    rose-after old.faults mid.faults new.faults (calm-then old first mid listed calm).later.faults fails
+upstream-refused old first mid new highest (Some up) number frozen (Damaged name error) listed calm chain is read fails =
+    let same : mid.files ≡ old.files = calm-files first mid calm ∙ calm-files old first listed in
+    record {
+      primary = number;
+      upstream = Some up;
+      chain = subst (λ (o : Option ℕ). IsToldChain old.files o (Some up)) is chain;
+      which = inr (subst (λ (fs : Option Files). IsReadable fs number) (calm-files old first listed) (readable first.files number frozen read), ap Some (sym fails.0));
+      damage = subst (λ (fs : Option Files). HasDamage fs name error) same (subst (λ (n : ℕ). HasDamage mid.files n error) (sym fails.0) fails.1);
+    }
+upstream-refused old first mid new highest (Some up) number frozen Memory listed calm chain is read fails = tt

@@ -1,6 +1,11 @@
 pub mod Answers
+pub mod Upstream
 pub mod Names
 pub mod Chain
 pub mod FolderState
 pub mod Opened
 pub mod Saved
+pub mod Rotation
+pub mod Pruning
+pub mod Removing
+pub mod Laws

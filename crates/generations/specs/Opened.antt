@@ -1,10 +1,11 @@
 -- What opening a folder gives, and what each refusal says.
-use Rattle.std.specs.Prelude.{◌≡◌, ◌≢◌, ℕ, List, Bool, true, false, Some, None}
+use Rattle.std.specs.Prelude.{◌≡◌, ◌≢◌, ◌⊎◌, ℕ, List, Bool, true, false, Some, None, is_some}
 use Rattle.std.specs.declared.option.Option.{Option}
 use Rattle.std.specs.FinMap as fin
+use Rattle.cas_model.specs.State.{State}
 use Rattle.cas_model.specs.Tables.{empty_start}
 use Rattle.cas_outside.specs.Causes.{Rose}
-use Rattle.cas_outside.specs.Folder.{Files, FolderView, Later}
+use Rattle.cas_outside.specs.Folder.{Files, FolderView, HasName, Later}
 use Rattle.cas_outside.specs.declared.folder.FolderError.{FolderError}
 use Rattle.cas_outside.specs.declared.folder.FolderError.TheVariants as folder
 use Rattle.frozen_store.specs.Seen.{FrozenSeen, IsSeen}
@@ -15,7 +16,8 @@ use Rattle.region_core.specs.Builds.{empty_region}
 use Rattle.generations.specs.declared.opening.OpenError.{OpenError}
 use Rattle.generations.specs.declared.opening.OpenError.TheVariants.{Held, FolderFault, Damaged, Memory}
 use Rattle.generations.specs.declared.opening.Opened.{Opened}
-use Rattle.generations.specs.Chain.{IsHighestBelow, HasGeneration}
+use Rattle.generations.specs.Chain.{IsToldChain}
+use Rattle.generations.specs.FolderState.{HasState}
 use Rattle.generations.specs.Names.{generation_name}
 
 -- a folder's error as one of opening
@@ -34,6 +36,11 @@ HasImage (Some files) number words = fin.get files (generation_name number) ≡ 
 pub record IsRead (files : Option Files) (number : ℕ) (frozen : FrozenSeen) : Type 0 where
   pub seen : IsSeen frozen
   pub image : HasImage files number frozen.words
+
+-- the generation's file is the image of words that stand for a state, where the files are told
+abbrev pub IsReadable : Option Files → ℕ → Type 0
+IsReadable None number = Unit {0}
+IsReadable (Some files) number = (state : State) × HasState files number state
 
 -- the generation's file is no image, for this reason
 pub record IsDamaged (files : Files) (number : ℕ) (error : ImageError) : Type 0 where
@@ -69,10 +76,9 @@ numbered false number = None
 abbrev pub primary_number : Opened → Option ℕ
 primary_number opened = numbered opened.has_file opened.number
 
--- this is the number of the highest generation, where the files are told
-abbrev pub IsToldHighest : Option Files → Option ℕ → Type 0
-IsToldHighest None number = Unit {0}
-IsToldHighest (Some files) number = IsHighestBelow (HasGeneration files) 4294967296 number
+-- the number of the upstream, where there is one
+abbrev pub upstream_number : Opened → Option ℕ
+upstream_number opened = numbered (is_some opened.up) opened.up_number
 
 -- a folder without generations opens as this
 pub record IsFresh (size : ℕ) (opened : Opened) : Type 0 where
@@ -84,21 +90,25 @@ pub record IsFresh (size : ℕ) (opened : Opened) : Type 0 where
   pub no_upstream : opened.up ≡ None
   pub no_number : opened.up_number ≡ 0
 
--- the primary was read from its file, and no upstream
+-- the upstream was read from its file, where there is one
+abbrev pub HasUpstream : Option Files → ℕ → Option FrozenSeen → Type 0
+HasUpstream files number None = number ≡ 0
+HasUpstream files number (Some frozen) = IsRead files number frozen
+
+-- the primary was read from its file, and so was the upstream
 pub record HasPrimary (files : Option Files) (opened : Opened) : Type 0 where
   pub read : IsRead files opened.number opened.primary
-  pub no_upstream : opened.up ≡ None
-  pub no_number : opened.up_number ≡ 0
+  pub upstream : HasUpstream files opened.up_number opened.up
 
 -- what was opened, by whether the primary has a file
 abbrev pub OpensTo : Bool → Option Files → ℕ → Opened → Type 0
 OpensTo true files size opened = HasPrimary files opened
 OpensTo false files size opened = IsFresh size opened
 
--- the highest generation was opened, under the lock
+-- the two highest generations were opened, under the lock
 pub record IsOpened (size : ℕ) (old new : FolderView) (opened : Opened) : Type 0 where
   pub locked : new.locked ≡ true
-  pub highest : IsToldHighest old.files (primary_number opened)
+  pub chain : IsToldChain old.files (primary_number opened) (upstream_number opened)
   pub to : OpensTo opened.has_file old.files size opened
 
 -- ---- errors
@@ -109,9 +119,12 @@ pub record IsHeld (old new : FolderView) : Type 0 where
   pub free : old.locked ≡ false
   pub still : new.locked ≡ false
 
--- the highest generation is damaged
+-- the generation is damaged. It is the primary, or the upstream of a primary that is not
 pub record IsRefused (files : Option Files) (number : ℕ) (error : ImageError) : Type 0 where
-  pub highest : IsToldHighest files (Some number)
+  pub primary : ℕ
+  pub upstream : Option ℕ
+  pub chain : IsToldChain files (Some primary) upstream
+  pub which : (number ≡ primary) ⊎ (IsReadable files primary × (upstream ≡ Some number))
   pub damage : HasDamage files number error
 
 -- the cause of each error. Want of memory is free
@@ -134,3 +147,21 @@ ReadFails old new number Held = ⊥
 ReadFails old new number FolderFault = Rose old.faults new.faults
 ReadFails old new number (Damaged name error) = (name ≡ number) × HasDamage old.files number error
 ReadFails old new number Memory = Unit {0}
+
+-- ---- the upstream on its way
+
+-- the upstream's file is there, where there is an upstream
+abbrev pub UpstreamIsThere : Option Files → Option ℕ → Type 0
+UpstreamIsThere files None = Unit {0}
+UpstreamIsThere files (Some number) = HasName files (generation_name number)
+
+-- the upstream was read, where there is one
+abbrev pub ReadsUpstream : Option Files → Option ℕ → Option FrozenSeen → Type 0
+ReadsUpstream files None up = up ≡ None
+ReadsUpstream files (Some number) None = ⊥
+ReadsUpstream files (Some number) (Some frozen) = IsRead files number frozen
+
+-- why it was not
+abbrev pub UpstreamFails : FolderView → FolderView → Option ℕ → OpenError → Type 0
+UpstreamFails old new None error = ⊥
+UpstreamFails old new (Some number) error = ReadFails old new number error

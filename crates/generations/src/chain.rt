@@ -1,7 +1,8 @@
 // The two highest generations of a folder.
-ghost use Rattle.std.specs.Prelude.{◌≡◌, List, ℕ, ◌++◌, ◌∷◌, [], true, IfOk};
+ghost use Rattle.std.specs.Prelude.{◌≡◌, ◌<◌, ◌≤◌, List, ℕ, ◌++◌, ◌∷◌, [], true, unwrap_or, IfOk, IfSome, IfNone};
 ghost use Rattle.cas_outside.specs.Folder.{Stays};
 ghost use Rattle.generations.specs.Chain.{AreTwoHighest, IsListed, IsToldChain};
+ghost use Rattle.generations.specs.Names.{IsNameOf};
 
 use crate::names::number_of;
 use cas_outside::{Folder, FolderError, Name};
@@ -28,6 +29,20 @@ impl Chain {
             chain = chain.with(name.list());
         }
         chain
+    }
+
+    /// The number of the generation with this name, where it is below the upstream.
+    pub(crate) fn unused(self, name: &[u8]) -> Option<u32>
+        ensures found { IfSome result (λ number. IsNameOf number name.now) }
+        ensures below { IfSome result (λ number. number < unwrap_or self.upstream 0) }
+        ensures none { IfNone result ((number : ℕ) → IsNameOf number name.now → unwrap_or self.upstream 0 ≤ number) }
+    {
+        let number = number_of(name)?;
+        if number < self.upstream.unwrap_or(0) {
+            Some(number)
+        } else {
+            None
+        }
     }
 
     // The two highest with one name more.

@@ -5,14 +5,23 @@
 mod chain;
 #[cfg(test)]
 mod folder_tests;
+mod laws;
 mod names;
 mod opening;
+mod pruning;
+mod rotating;
 mod saving;
 #[cfg(test)]
 mod tests;
 mod unified;
 
+pub use laws::{
+    opening_reads_the_chain, pruning_keeps_the_chain, rotating_lowers_the_primary,
+    saving_keeps_the_upstream,
+};
 pub use names::{name_of, number_of};
 pub use opening::{OpenError, Opened, open_folder};
+pub use pruning::prune;
+pub use rotating::{needs_rotation, rotate};
 pub use saving::{SaveError, save};
 pub use unified::Unified;

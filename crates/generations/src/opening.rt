@@ -2,7 +2,7 @@
 ghost use Rattle.std.specs.Prelude.{◌≡◌, ◌≤◌, true, IfOk, IfErr};
 ghost use Rattle.cas_outside.specs.Folder.{Calm, HasName};
 ghost use Rattle.generations.specs.Names.{generation_name};
-ghost use Rattle.generations.specs.Opened.{ChainFails, IsFresh, IsOpened, IsRead, OpenFails, Opens, ReadFails, refusal_of};
+ghost use Rattle.generations.specs.Opened.{ChainFails, IsFresh, IsOpened, IsRead, OpenFails, Opens, ReadFails, ReadsUpstream, UpstreamFails, UpstreamIsThere, refusal_of};
 
 use crate::chain::chain_of;
 use crate::names::name_of;
@@ -26,7 +26,7 @@ pub struct Opened {
     pub primary: Frozen,
     /// The number of the upstream, 0 where there is none.
     pub up_number: u32,
-    /// The generation below the primary. It is not read yet.
+    /// The highest generation below the primary, where there is one.
     pub up: Option<Frozen>,
 }
 
@@ -77,11 +77,13 @@ impl From<AllocError> for OpenError {
     }
 }
 
-/// Opens a folder that is entered: takes its lock, and reads and checks the highest generation. Where no generation
-/// exists, the primary is an empty region of this size, in words. No file changes, whatever the answer.
+/// Opens a folder that is entered: takes its lock, and reads and checks the two highest generations, the primary first
+/// and then the upstream. Where no generation exists, the primary is an empty region of this size, in words. No file
+/// changes, whatever the answer.
 ///
 /// `Held` comes only where another holds the lock, `FolderFault` only where the folder's count of faults rose, and
-/// `Damaged` exactly where the highest generation's file is no image, with the refusal of `read_image`.
+/// `Damaged` exactly where the primary's file is no image, or else the upstream's is none, with the refusal of
+/// `read_image`.
 pub fn open_folder<F: Folder>(alloc: Global, folder: &mut F, size: u64) -> Result<Opened, OpenError>
     requires entered { (F.view folder.old).entered ≡ true }
     requires least { 4096 ≤ size }
@@ -96,7 +98,7 @@ pub fn open_folder<F: Folder>(alloc: Global, folder: &mut F, size: u64) -> Resul
     read_chain(alloc, folder, size)
 }
 
-// Reads the highest generation of a folder that is locked.
+// Reads the two highest generations of a folder that is locked.
 fn read_chain<F: Folder>(alloc: Global, folder: &mut F, size: u64) -> Result<Opened, OpenError>
     requires locked { (F.view folder.old).locked ≡ true }
     requires least { 4096 ≤ size }
@@ -110,13 +112,32 @@ fn read_chain<F: Folder>(alloc: Global, folder: &mut F, size: u64) -> Result<Ope
         return fresh(alloc, size);
     };
     let primary = read_generation(alloc, folder, number)?;
+    let up = read_upstream(alloc, folder, chain.upstream)?;
     Ok(Opened {
         number,
         has_file: true,
         primary,
-        up_number: 0,
-        up: None,
+        up_number: chain.upstream.unwrap_or(0),
+        up,
     })
+}
+
+// Reads and checks the upstream, where there is one.
+fn read_upstream<F: Folder>(
+    alloc: Global,
+    folder: &mut F,
+    upstream: Option<u32>,
+) -> Result<Option<Frozen>, OpenError>
+    requires locked { (F.view folder.old).locked ≡ true }
+    requires there { UpstreamIsThere (F.view folder.old).files upstream }
+    ensures ok { IfOk result (λ up. ReadsUpstream (F.view folder.old).files upstream up) }
+    ensures err { IfErr result (λ error. UpstreamFails (F.view folder.old) (F.view folder.new) upstream error) }
+    ensures calm { Calm (F.view folder.old) (F.view folder.new) }
+{
+    match upstream {
+        Some(number) => Ok(Some(read_generation(alloc, folder, number)?)),
+        None => Ok(None),
+    }
 }
 
 // What a folder without generations opens as.
