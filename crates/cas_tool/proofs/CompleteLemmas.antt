@@ -105,7 +105,8 @@ stops-may Validate before after given quiet h = absurd h
 undamaged : (files : Option Files) (name : ℕ) (error : ImageError) → IsReadable files → IsRefused files name error → ⊥
 undamaged None name error readable refused = readable
 undamaged (Some files) name error readable refused =
-    let there = readable name refused.highest in
+    let which : (Some refused.primary ≡ Some name) ⊎ (refused.upstream ≡ Some name) = elim refused.which [ inl is ↦ inl (ap Some (sym is)) | inr below ↦ inr below.1 ] in
+    let there = readable (Some refused.primary) refused.upstream name refused.chain which in
     let has = there.1 in
     let damage = refused.damage in
     let same : Some damage.file ≡ Some (image_bytes has.words) = sym damage.there ∙ has.file in

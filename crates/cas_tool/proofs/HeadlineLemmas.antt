@@ -12,9 +12,9 @@ use Rattle.cas_model.specs.Primary.{primary}
 use Rattle.cas_model.specs.State.{State}
 use Rattle.cas_outside.specs.Folder.{Files, FolderView, PutsFile}
 use Rattle.generations.specs.declared.opening.Opened.{Opened}
-use Rattle.generations.specs.Chain.{HasGeneration, IsHighestBelow}
+use Rattle.generations.specs.Chain.{HasGeneration, IsHighestBelow, IsToldChain}
 use Rattle.generations.specs.Names.{generation_name}
-use Rattle.generations.specs.Opened.{IsOpened, IsToldHighest, OpensTo, numbered, primary_number}
+use Rattle.generations.specs.Opened.{IsOpened, OpensTo, numbered, primary_number, upstream_number}
 use Rattle.generations.proofs.NameLemmas.{one-number}
 use Rattle.cas_tool.specs.declared.answer.Answer.{Answer}
 use Rattle.cas_tool.specs.declared.answer.Answer.TheVariants.{Done, Missing, Usage, ReadFault, WriteFault, FolderFault, Damaged, Full, Poisoned, Dangling, BadScript, Held, TooLarge, NoMemory}
@@ -51,7 +51,7 @@ opened-state files size opened false is highest to = record { number = None; hig
 
 pub state-at-entry : (files : Files) (size : ℕ) (old new : FolderView) (opened : Opened) → old.files ≡ Some files → IsOpened size old new opened → IsPrimaryState files (primary opened.primary.tables)
 state-at-entry files size old new opened told h =
-    opened-state files size opened opened.has_file refl (subst (λ (fs : Option Files). IsToldHighest fs (primary_number opened)) told h.highest)
+    opened-state files size opened opened.has_file refl (subst (λ (fs : Option Files). IsToldChain fs (primary_number opened) (upstream_number opened)) told h.chain).primary_is
     (subst (λ (fs : Option Files). OpensTo opened.has_file fs size opened) told h.to)
 
 -- ---- the state that was saved
@@ -134,7 +134,7 @@ state-at-end files size old between new opened closed None told same h due saved
   to = subst (IsPrimaryState files) (sym due) (state-at-entry files size old between opened told h);
 }
 state-at-end files size old between new opened closed (Some image) told same h due saved =
-    let number = opened-number files size opened opened.has_file (subst (λ (fs : Option Files). IsToldHighest fs (primary_number opened)) told h.highest)
+    let number = opened-number files size opened opened.has_file (subst (λ (fs : Option Files). IsToldChain fs (primary_number opened) (upstream_number opened)) told h.chain).primary_is
     (subst (λ (fs : Option Files). OpensTo opened.has_file fs size opened) told h.to) in
     record {
       files = fin.insert files (generation_name opened.number) image.items;
