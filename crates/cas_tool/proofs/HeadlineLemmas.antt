@@ -176,7 +176,7 @@ prepares-to :
     → (run : Run) → front_run front ≡ Some run → RunsToTold files after.folder.files run
 prepares-to files words before after front output told h run is = elim h.is [
   | inl task ↦ runs-to files before.folder told front (string_bytes h.dir) (first_size h.request.options) task.work after.folder output task.prepares run is
-  | inr check ↦ absurd (let two : None ≡ Some run = sym check.no_run ∙ is in cc two)
+  | inr upkeep ↦ absurd (let two : None ≡ Some run = sym upkeep.no_run ∙ is in cc two)
 ]
 
 module _ (files : Files) (words : List (String Global)) (before after : World) (front : Front) (told : before.outside.folder.files ≡ Some files) (run : Run) (is : front_run front ≡ Some run) where

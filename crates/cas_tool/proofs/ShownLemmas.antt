@@ -53,7 +53,7 @@ refuses-run words before after front given h = elim h [
           | inr saving ↦ inr (answered-run (string_bytes stop.dir) (first_size stop.request.options) before.folder saving.between saving.opened task.work.script saving.has.replies front saving.opens saving.has.answered)
         ]
       ]
-      | inr check ↦ inl check.no_run
+      | inr upkeep ↦ inl upkeep.no_run
     ]
   ]
 ]
@@ -61,7 +61,7 @@ refuses-run words before after front given h = elim h [
 prepares-run : (words : List (String Global)) (before after : Outside) (front : Front) (output : Output) → Prepares words before after front output → NotReached front ⊎ HasRun before.folder front
 prepares-run words before after front output h = elim h.is [
   | inl task ↦ inr (answered-run (string_bytes h.dir) (first_size h.request.options) before.folder task.prepares.between task.prepares.opened task.work.script task.prepares.has.replies front task.prepares.opens task.prepares.has.answered)
-  | inr check ↦ inl check.no_run
+  | inr upkeep ↦ inl upkeep.no_run
 ]
 
 nothing-run : (words : List (String Global)) (before after : Outside) (front : Front) (given : Answer) → Refuses words before after front given ⊎ Prepares words before after front (Denied given)

@@ -16,7 +16,7 @@ use Rattle.cas_tool.specs.declared.command.Setting.TheVariants.{Workers, Size, L
 use Rattle.cas_tool.specs.declared.command.Task.{Task}
 use Rattle.cas_tool.specs.declared.command.Task.TheVariants as task
 use Rattle.cas_tool.specs.declared.command.Verb.{Verb}
-use Rattle.cas_tool.specs.declared.command.Verb.TheVariants.{MakeBlob, MakeNode, CatNodeData, LsNodeRefs, PutCacheKey, GetCacheResult, Batch, Workload, Validate}
+use Rattle.cas_tool.specs.declared.command.Verb.TheVariants.{MakeBlob, MakeNode, CatNodeData, LsNodeRefs, PutCacheKey, GetCacheResult, Batch, Workload, Validate, Prune}
 
 -- ---- the words
 
@@ -47,7 +47,8 @@ verb_of word =
     (cond (is_word word (codes "--get-cache-result")) (Some GetCacheResult)
     (cond (is_word word (codes "--batch")) (Some Batch)
     (cond (is_word word (codes "--validate")) (Some Validate)
-    None)))))))
+    (cond (is_word word (codes "--prune")) (Some Prune)
+    None))))))))
 
 -- the words begin with the value of a workload, 1 to 10,000 rounds, and the rest follows
 pub record IsWorkload (words : List (String Global)) (verb : Verb) (rest : List (String Global)) : Type 0 where
@@ -170,6 +171,7 @@ takes GetCacheResult n = n == 1
 takes Batch n = n == 0
 takes (Workload rounds) n = n == 0
 takes Validate n = n == 0
+takes Prune n = n == 0
 
 -- the operand at this index, counted from 0, is a key. Each other is an id
 abbrev pub is_key : Verb → ℕ → Bool
@@ -182,6 +184,7 @@ is_key LsNodeRefs k = false
 is_key Batch k = false
 is_key (Workload rounds) k = false
 is_key Validate k = false
+is_key Prune k = false
 
 -- a key or an id of this digest
 abbrev pub IsOperand : Bool → Digest → List ℕ → Type 0
@@ -234,6 +237,8 @@ task_of (Workload rounds) [] = Some (task.Workload rounds)
 task_of (Workload rounds) (a ∷ more) = None
 task_of Validate [] = Some task.Validate
 task_of Validate (a ∷ more) = None
+task_of Prune [] = Some task.Prune
+task_of Prune (a ∷ more) = None
 
 -- the words name a command with these options, and their operands read, as these digests
 pub record HaveOperands (words : List (String Global)) (verb : Verb) (options : Options) (digests : List Digest) : Type 0 where

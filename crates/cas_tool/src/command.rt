@@ -21,6 +21,7 @@ pub enum Verb {
     /// With the word after it, a number of rounds from 1 to 10,000.
     Workload(u32),
     Validate,
+    Prune,
 }
 
 /// What the words ask for.
@@ -41,6 +42,8 @@ pub enum Task {
     Workload(u32),
     /// A check of the folder's images.
     Validate,
+    /// The removal of the generations that no command reads.
+    Prune,
 }
 
 /// What an option sets. The word after the option is its value.

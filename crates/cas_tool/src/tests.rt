@@ -97,7 +97,7 @@ fn faults_have_their_answers(rt: HostRuntime) -> Result<(), Fail> {
 
 #[test]
 fn other_words_are_refused(rt: HostRuntime) -> Result<(), Fail> {
-    let cases: [(&[&str], UsageKind); 34] = [
+    let cases: [(&[&str], UsageKind); 36] = [
         // An option without its value, and values that are no numbers within bounds.
         (&["--cas", "c", "--batch", "--workers"], UsageKind::Words),
         (
@@ -165,6 +165,8 @@ fn other_words_are_refused(rt: HostRuntime) -> Result<(), Fail> {
             &["--cas", "c", "--validate", "--size", "4096", ZERO],
             UsageKind::Operands(1),
         ),
+        (&["--cas", "c", "--prune", ZERO], UsageKind::Operands(1)),
+        (&["--cas", "c", "--prune", "--all"], UsageKind::Words),
         (&["--cas", "c", "--batch", "-"], UsageKind::Words),
         (&["--cas", "c", "--batch", ZERO], UsageKind::Operands(1)),
         (&[], UsageKind::Words),

@@ -262,6 +262,8 @@ impl Verb {
             Some(Verb::Batch)
         } else if text == b"--validate".as_slice() {
             Some(Verb::Validate)
+        } else if text == b"--prune".as_slice() {
+            Some(Verb::Prune)
         } else {
             None
         }
@@ -272,7 +274,8 @@ impl Verb {
         ensures { result ≡ takes self count }
     {
         match self {
-            Verb::MakeBlob | Verb::Batch | Verb::Workload(_) | Verb::Validate => count == 0,
+            Verb::MakeBlob | Verb::Batch | Verb::Workload(_) => count == 0,
+            Verb::Validate | Verb::Prune => count == 0,
             Verb::MakeNode => true,
             Verb::CatNodeData | Verb::LsNodeRefs | Verb::GetCacheResult => count == 1,
             Verb::PutCacheKey => count == 2,
@@ -306,6 +309,7 @@ impl Verb {
             (Verb::Batch, _) => return Task::Batch,
             (Verb::Workload(rounds), _) => return Task::Workload(rounds),
             (Verb::Validate, _) => return Task::Validate,
+            (Verb::Prune, _) => return Task::Prune,
             _ => unreachable!(),
         };
         Task::Once(command)
