@@ -1,6 +1,7 @@
 -- Where nothing fails, a run has one of few answers.
 use Rattle.std.proofs.Common.{◌≡◌, ℕ, ◌≤◌, ◌⊎◌, inl, inr, Bool, true, false, cond, List, [], ◌∷◌, slice_get, Some, None, Err, ap, sym, subst, ◌∙◌}
 use Rattle.std.specs.Prelude.{String}
+use Rattle.std.specs.String.{string_bytes}
 use Rattle.std.specs.declared.alloc.Global.{Global}
 use Rattle.std.specs.declared.option.Option.{Option}
 use Rattle.std.specs.declared.vec.Vec.{Vec}
@@ -31,7 +32,7 @@ use Rattle.cas_tool.specs.declared.answer.Large.TheVariants.{Data, References, S
 use Rattle.cas_tool.specs.declared.command.Command.{Command}
 use Rattle.cas_tool.specs.declared.command.Command.TheVariants.{Make, CatNodeData, LsNodeRefs, PutCacheKey, GetCacheResult}
 use Rattle.cas_tool.specs.declared.command.Task.{Task}
-use Rattle.cas_tool.specs.declared.command.Task.TheVariants.{Once, Batch, Workload, Validate}
+use Rattle.cas_tool.specs.declared.command.Task.TheVariants.{Once, Batch, Workload, Validate, Prune}
 use Rattle.cas_tool.specs.declared.front.Front.{Front}
 use Rattle.cas_tool.specs.declared.output.Output.{Output}
 use Rattle.cas_tool.specs.declared.output.Output.TheVariants.{Denied}
@@ -41,10 +42,12 @@ use Rattle.cas_tool.specs.Complete.{AnswersTask, IsQuiet, IsCompleteRun, IsReada
 use Rattle.cas_tool.specs.Front.{closed_of}
 use Rattle.cas_tool.specs.Opening.{OpenCause}
 use Rattle.cas_tool.specs.Output.{IsOutputOfOne, Reports, call_of, refusal_of, shown_by}
-use Rattle.cas_tool.specs.Run.{Because, Prepares, Refuses, SavingStops, World, WordsRefused, save_answer}
+use Rattle.cas_tool.specs.Pruning.{EnterCause, PruneCause}
+use Rattle.cas_tool.specs.Run.{Because, Prepares, Refuses, SavingStops, UpkeepRefuses, World, WordsRefused, save_answer}
+use Rattle.cas_tool.specs.Words.{first_size}
 use Rattle.cas_tool.specs.Work.{IsWork, Source, TaskStops}
 use Rattle.cas_tool.proofs.FolderLemmas.{rose-since}
-use Rattle.cas_tool.proofs.RunLemmas.{IsOfReply, prepares-denied}
+use Rattle.cas_tool.proofs.RunLemmas.{IsOfReply, prepares-denied, upkeep-text}
 
 -- ---- what a task may answer
 
@@ -53,12 +56,14 @@ done-may (Once command) = tt
 done-may Batch = tt
 done-may (Workload rounds) = tt
 done-may Validate = tt
+done-may Prune = tt
 
 memory-may : (task : Task) → MayAnswer task NoMemory
 memory-may (Once command) = tt
 memory-may Batch = tt
 memory-may (Workload rounds) = tt
 memory-may Validate = tt
+memory-may Prune = tt
 
 given-memory : (task : Task) (given : Answer) → given ≡ NoMemory → MayAnswer task given
 given-memory task given is = subst (MayAnswer task) (sym is) (memory-may task)
@@ -99,13 +104,15 @@ stops-may Batch before after (TooLarge Data number) quiet h = absurd h
 stops-may Batch before after NoMemory quiet h = tt
 stops-may (Workload rounds) before after given quiet h = given-memory (Workload rounds) given h.0
 stops-may Validate before after given quiet h = absurd h
+stops-may Prune before after given quiet h = absurd h
 
 -- ---- a folder that is readable is not damaged
 
 undamaged : (files : Option Files) (name : ℕ) (error : ImageError) → IsReadable files → IsRefused files name error → ⊥
 undamaged None name error readable refused = readable
 undamaged (Some files) name error readable refused =
-    let there = readable name refused.highest in
+    let which : (Some refused.primary ≡ Some name) ⊎ (refused.upstream ≡ Some name) = elim refused.which [ inl is ↦ inl (ap Some (sym is)) | inr below ↦ inr below.1 ] in
+    let there = readable (Some refused.primary) refused.upstream name refused.chain which in
     let has = there.1 in
     let damage = refused.damage in
     let same : Some damage.file ≡ Some (image_bytes has.words) = sym damage.there ∙ has.file in
@@ -137,6 +144,55 @@ saves-may task number due old between new given quiet later stops = by-error sto
   by-error : (error : SaveError) → given ≡ save_answer error → SavesTo (generation_name number) stops.image.items between new (Err error) → MayAnswer task given
   by-error save.FolderFault is to = absurd (quiet (rose-since old.faults between.faults new.faults later to.1))
   by-error save.Memory is to = given-memory task given is
+
+-- why the folder was not entered and locked
+enters-may : (task : Task) (old new : FolderView) (given : Answer) → (Rose old.faults new.faults → ⊥) → (Rose old.held new.held → ⊥) → EnterCause old new given → MayAnswer task given
+enters-may task old new Done quiet free h = absurd h
+enters-may task old new (Missing digest) quiet free h = absurd h
+enters-may task old new (Usage kind) quiet free h = absurd h
+enters-may task old new ReadFault quiet free h = absurd h
+enters-may task old new WriteFault quiet free h = absurd h
+enters-may task old new FolderFault quiet free h = absurd (quiet h)
+enters-may task old new (Damaged name error) quiet free h = absurd h
+enters-may task old new (Full full) quiet free h = absurd h
+enters-may task old new (Poisoned wanted kept) quiet free h = absurd h
+enters-may task old new (Dangling index digest) quiet free h = absurd h
+enters-may task old new (BadScript line kind) quiet free h = absurd h
+enters-may task old new Held quiet free h = absurd (free h)
+enters-may task old new (TooLarge what number) quiet free h = absurd h
+enters-may task old new NoMemory quiet free h = memory-may task
+
+prunes-may : (task : Task) (old between new : FolderView) (given : Answer) → (Rose old.faults new.faults → ⊥) → old.faults ≤ between.faults → PruneCause between new given → MayAnswer task given
+prunes-may task old between new Done quiet later h = absurd h
+prunes-may task old between new (Missing digest) quiet later h = absurd h
+prunes-may task old between new (Usage kind) quiet later h = absurd h
+prunes-may task old between new ReadFault quiet later h = absurd h
+prunes-may task old between new WriteFault quiet later h = absurd h
+prunes-may task old between new FolderFault quiet later h = absurd (quiet (rose-since old.faults between.faults new.faults later h.to.1))
+prunes-may task old between new (Damaged name error) quiet later h = absurd h
+prunes-may task old between new (Full full) quiet later h = absurd h
+prunes-may task old between new (Poisoned wanted kept) quiet later h = absurd h
+prunes-may task old between new (Dangling index digest) quiet later h = absurd h
+prunes-may task old between new (BadScript line kind) quiet later h = absurd h
+prunes-may task old between new Held quiet later h = absurd h
+prunes-may task old between new (TooLarge what number) quiet later h = absurd h
+prunes-may task old between new NoMemory quiet later h = memory-may task
+
+-- why a task without a script stopped
+upkeep-may :
+    (task : Task) (dir : List ℕ) (size : ℕ) (old new : FolderView) (given : Answer) → (Rose old.faults new.faults → ⊥) → (Rose old.held new.held → ⊥) → IsReadable old.files
+    → UpkeepRefuses task dir size old new given → MayAnswer task given
+upkeep-may Validate dir size old new given quiet free readable h = elim h [
+  | inl opening ↦ opens-may Validate old new given quiet free readable opening.cause
+  | inr checking ↦ given-memory Validate given checking.memory
+]
+upkeep-may Prune dir size old new given quiet free readable h = elim h [
+  | inl entering ↦ enters-may Prune old new given quiet free entering.cause
+  | inr pruning ↦ prunes-may Prune old pruning.between new given quiet pruning.enters.only.later.faults pruning.cause
+]
+upkeep-may (Once command) dir size old new given quiet free readable h = absurd h
+upkeep-may Batch dir size old new given quiet free readable h = absurd h
+upkeep-may (Workload rounds) dir size old new given quiet free readable h = absurd h
 
 -- ---- answers in place of a text
 
@@ -182,6 +238,7 @@ denied-may Batch before after work replies objects actions given is_work of h =
 denied-may (Workload rounds) before after work replies objects actions given is_work of h =
     absurd (subst (λ (r : Report). Reports r work.script replies objects actions (Denied given)) is_work.report_is h)
 denied-may Validate before after work replies objects actions given is_work of h = absurd is_work
+denied-may Prune before after work replies objects actions given is_work of h = absurd is_work
 
 -- ---- the run
 
@@ -203,10 +260,7 @@ module _ (words : List (String Global)) (before after : World) (front : Front) (
                   saves-may stop.request.task saving.opened.number saving.made.image before.outside.folder saving.between after.outside.folder given quiet.folder saving.opens.only.later.faults saving.stops
             ]
           ]
-          | inr check ↦ elim check.refuses [
-            | inl opening ↦ opens-may stop.request.task before.outside.folder after.outside.folder given quiet.folder quiet.held readable opening.cause
-            | inr checking ↦ given-memory stop.request.task given checking.memory
-          ]
+          | inr upkeep ↦ upkeep-may stop.request.task (string_bytes stop.dir) (first_size stop.request.options) before.outside.folder after.outside.folder given quiet.folder quiet.held readable upkeep.refuses
         ]
       ];
     })
@@ -223,7 +277,7 @@ module _ (words : List (String Global)) (before after : World) (front : Front) (
           denied-may h.request.task before.outside.source after.outside.source task.work run.has.replies (fin.len closed.objects) (fin.len closed.cache) given task.is_work
           (prepares-denied words before.outside after.outside front given h)
           (subst (λ (o : Output). Reports task.work.report task.work.script run.has.replies (fin.len closed.objects) (fin.len closed.cache) o) (sym run.is) run.has.is.reports)
-      | inr check ↦ absurd check.prepares.is
+      | inr upkeep ↦ absurd (upkeep-text h.request.task (string_bytes h.dir) (first_size h.request.options) before.outside.folder after.outside.folder given upkeep.prepares)
     ];
   }
 

@@ -7,11 +7,12 @@ use Rattle.cas_outside.specs.declared.folder.FolderError.TheVariants as folder
 use Rattle.generations.specs.declared.opening.OpenError.{OpenError}
 use Rattle.generations.specs.declared.opening.OpenError.TheVariants as error
 use Rattle.generations.specs.declared.opening.Opened.{Opened}
-use Rattle.generations.specs.Opened.{IsOpened, IsRefused, IsToldHighest, OpenFails, Opens, OpensTo, primary_number}
+use Rattle.generations.specs.Chain.{IsToldChain}
+use Rattle.generations.specs.Opened.{IsOpened, IsRefused, OpenFails, Opens, OpensTo, primary_number, upstream_number}
 use Rattle.cas_tool.specs.declared.answer.Answer.TheVariants.{FolderFault, NoMemory}
 use Rattle.cas_tool.specs.Opening.{HasOpened, IsOnlyOpened, OpenCause, OpeningStops, open_answer}
 
-later-then : (a b c : FolderView) → Later a b → Later b c → Later a c
+pub later-then : (a b c : FolderView) → Later a b → Later b c → Later a c
 later-then a b c ab bc =
     let f1 = ab.faults in let f2 = bc.faults in let h1 = ab.held in let h2 = bc.held in let c1 = ab.changes in let c2 = bc.changes in
     record { faults = omega (arith, f1, f2); held = omega (arith, h1, h2); changes = omega (arith, c1, c2) }
@@ -20,7 +21,7 @@ later-then a b c ab bc =
 pub rose-since : (a b c : ℕ) → a ≤ b → Rose b c → Rose a c
 rose-since a b c le rose = omega (arith, le, rose)
 
-only : (dir : List ℕ) (old new : FolderView) → Later old new → (new.asked ≡ old.asked) ⊎ (new.asked ≡ Some dir) → new.files ≡ old.files → new.changes ≡ old.changes → IsOnlyOpened dir old new
+pub only : (dir : List ℕ) (old new : FolderView) → Later old new → (new.asked ≡ old.asked) ⊎ (new.asked ≡ Some dir) → new.files ≡ old.files → new.changes ≡ old.changes → IsOnlyOpened dir old new
 only dir old new later asked files changes = record {
   later = later;
   asked = asked;
@@ -61,7 +62,7 @@ module _ (dir : List ℕ) (old mid new : FolderView) (enters : Entered dir old m
     entered = ap (λ (v : FolderView). v.entered) opens.is ∙ ap (λ (v : FolderView). v.entered) enters.to;
     is = record {
       locked = h.locked;
-      highest = subst (λ (fs : Option Files). IsToldHighest fs (primary_number opened)) files-stay h.highest;
+      chain = subst (λ (fs : Option Files). IsToldChain fs (primary_number opened) (upstream_number opened)) files-stay h.chain;
       to = subst (λ (fs : Option Files). OpensTo opened.has_file fs size opened) files-stay h.to;
     };
   }

@@ -12,9 +12,9 @@ use Rattle.cas_model.specs.Primary.{primary}
 use Rattle.cas_model.specs.State.{State}
 use Rattle.cas_outside.specs.Folder.{Files, FolderView, PutsFile}
 use Rattle.generations.specs.declared.opening.Opened.{Opened}
-use Rattle.generations.specs.Chain.{HasGeneration, IsHighestBelow}
+use Rattle.generations.specs.Chain.{HasGeneration, IsHighestBelow, IsToldChain}
 use Rattle.generations.specs.Names.{generation_name}
-use Rattle.generations.specs.Opened.{IsOpened, IsToldHighest, OpensTo, numbered, primary_number}
+use Rattle.generations.specs.Opened.{IsOpened, OpensTo, numbered, primary_number, upstream_number}
 use Rattle.generations.proofs.NameLemmas.{one-number}
 use Rattle.cas_tool.specs.declared.answer.Answer.{Answer}
 use Rattle.cas_tool.specs.declared.answer.Answer.TheVariants.{Done, Missing, Usage, ReadFault, WriteFault, FolderFault, Damaged, Full, Poisoned, Dangling, BadScript, Held, TooLarge, NoMemory}
@@ -27,6 +27,7 @@ use Rattle.cas_tool.specs.Closing.{IsImageDue, IsImageOf}
 use Rattle.cas_tool.specs.Front.{NotReached, closed_of, front_run, run_of}
 use Rattle.cas_tool.specs.Headline.{ComesAfterSave, HasHeadline, IsPrimaryState, RunsFrom, RunsTo, RunsToTold}
 use Rattle.cas_tool.specs.Run.{Because, IsSaved, Outside, Prepares, Refuses, RunPrepares, World}
+use Rattle.cas_tool.specs.Words.{first_size}
 use Rattle.cas_tool.proofs.RunLemmas.{IsOfReply, of-refused}
 use Rattle.cas_tool.proofs.ShownLemmas.{HasRun, shows-run}
 
@@ -50,7 +51,7 @@ opened-state files size opened false is highest to = record { number = None; hig
 
 pub state-at-entry : (files : Files) (size : ℕ) (old new : FolderView) (opened : Opened) → old.files ≡ Some files → IsOpened size old new opened → IsPrimaryState files (primary opened.primary.tables)
 state-at-entry files size old new opened told h =
-    opened-state files size opened opened.has_file refl (subst (λ (fs : Option Files). IsToldHighest fs (primary_number opened)) told h.highest)
+    opened-state files size opened opened.has_file refl (subst (λ (fs : Option Files). IsToldChain fs (primary_number opened) (upstream_number opened)) told h.chain).primary_is
     (subst (λ (fs : Option Files). OpensTo opened.has_file fs size opened) told h.to)
 
 -- ---- the state that was saved
@@ -133,7 +134,7 @@ state-at-end files size old between new opened closed None told same h due saved
   to = subst (IsPrimaryState files) (sym due) (state-at-entry files size old between opened told h);
 }
 state-at-end files size old between new opened closed (Some image) told same h due saved =
-    let number = opened-number files size opened opened.has_file (subst (λ (fs : Option Files). IsToldHighest fs (primary_number opened)) told h.highest)
+    let number = opened-number files size opened opened.has_file (subst (λ (fs : Option Files). IsToldChain fs (primary_number opened) (upstream_number opened)) told h.chain).primary_is
     (subst (λ (fs : Option Files). OpensTo opened.has_file fs size opened) told h.to) in
     record {
       files = fin.insert files (generation_name opened.number) image.items;
@@ -174,8 +175,8 @@ prepares-to :
     (files : Files) (words : List (String Global)) (before after : Outside) (front : Front) (output : Output) → before.folder.files ≡ Some files → Prepares words before after front output
     → (run : Run) → front_run front ≡ Some run → RunsToTold files after.folder.files run
 prepares-to files words before after front output told h run is = elim h.is [
-  | inl task ↦ runs-to files before.folder told front (string_bytes h.dir) h.request.options.size task.work after.folder output task.prepares run is
-  | inr check ↦ absurd (let two : None ≡ Some run = sym check.no_run ∙ is in cc two)
+  | inl task ↦ runs-to files before.folder told front (string_bytes h.dir) (first_size h.request.options) task.work after.folder output task.prepares run is
+  | inr upkeep ↦ absurd (let two : None ≡ Some run = sym upkeep.no_run ∙ is in cc two)
 ]
 
 module _ (files : Files) (words : List (String Global)) (before after : World) (front : Front) (told : before.outside.folder.files ≡ Some files) (run : Run) (is : front_run front ≡ Some run) where

@@ -8,6 +8,7 @@ pub mod NumberLemmas
 pub mod SplitLemmas
 pub mod RunLemmas
 pub mod FolderLemmas
+pub mod PruningLemmas
 pub mod MadeLemmas
 pub mod CompleteLemmas
 pub mod RoomLemmas

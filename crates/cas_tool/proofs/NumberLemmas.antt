@@ -55,12 +55,12 @@ number-read {E} text (Ok n) number lead parsed is =
 number-read text (Err e) number lead parsed is = cc is
 
 -- a text that is a number leads, and is read as it
-pub number-leads : (least most number : ℕ) (text : List ℕ) → most < 2 ^ 32 → IsNumberWithin least most text number → leads text ≡ true
+pub number-leads : (least most number : ℕ) (text : List ℕ) → most < 2 ^ 64 → IsNumberWithin least most text number → leads text ≡ true
 number-leads least most number text small is =
     let high = is.high in
     subst (λ (ds : List ℕ). leads ds ≡ true) (sym is.digits) (decimal-leads number (omega arith))
 
-pub number-parses : {E : Type 0} (least most number : ℕ) (text : List ℕ) (r : Result ℕ E) → most < 2 ^ 32 → IsNumberWithin least most text number → ParsesUnsigned 64 10 text r → r ≡ Ok number
+pub number-parses : {E : Type 0} (least most number : ℕ) (text : List ℕ) (r : Result ℕ E) → most < 2 ^ 64 → IsNumberWithin least most text number → ParsesUnsigned 64 10 text r → r ≡ Ok number
 number-parses least most number text r small is parsed =
     let high = is.high in
     parse-decimal 64 number text r (omega arith) (omega arith) is.digits parsed

@@ -1,6 +1,7 @@
 -- Where there is room for the script, the run that the front shows was refused no claim, and its answer is not `Full`.
 use Rattle.std.proofs.Common.{◌≡◌, ◌⊎◌, inl, inr, ℕ, ◌≤◌, List, [], ◌∷◌, Bool, true, false, cond, slice_get, Some, None, ap, sym, subst, ◌∙◌, arith}
 use Rattle.std.specs.Prelude.{String}
+use Rattle.std.specs.String.{string_bytes}
 use Rattle.std.specs.declared.alloc.Global.{Global}
 use Rattle.std.specs.FinMap as fin
 use Rattle.cas_model.specs.declared.call.Reply.{Reply}
@@ -37,7 +38,8 @@ use Rattle.cas_tool.specs.Output.{Reports, refusal_of}
 use Rattle.cas_tool.specs.Room.{HasCause, HasRoom, IsNotFull, IsRoomy, IsShort, IsUnrefused, calls_of_sessions}
 use Rattle.cas_tool.specs.Run.{Because, Outside, Prepares, World}
 use Rattle.cas_tool.proofs.HistoryLemmas.{all-conduct}
-use Rattle.cas_tool.proofs.RunLemmas.{of-refused}
+use Rattle.cas_tool.specs.Words.{first_size}
+use Rattle.cas_tool.proofs.RunLemmas.{of-refused, upkeep-text}
 use Rattle.cas_tool.proofs.ShownLemmas.{HasRun, answered-ran, shows-run}
 use Rattle.cas_tool.proofs.RoomLemmas.{AreNotFull, none-full, none-refused, session-replies-fit}
 
@@ -109,7 +111,7 @@ prepares-short words before after front full h = elim h.is [
         short = reported-short task.work.report run.opened.primary task.work.script run.has.replies (fin.len closed.objects) (fin.len closed.cache) front full run.has.answered
             (subst (λ (o : Output). Reports task.work.report task.work.script run.has.replies (fin.len closed.objects) (fin.len closed.cache) o) (sym run.is) run.has.is.reports);
       }
-  | inr check ↦ absurd check.prepares.is
+  | inr upkeep ↦ absurd (upkeep-text h.request.task (string_bytes h.dir) (first_size h.request.options) before.folder after.folder (Full full) upkeep.prepares)
 ]
 
 full-cause : (words : List (String Global)) (before after : World) (front : Front) (given : Answer) → Because words before after front given → HasCause front given

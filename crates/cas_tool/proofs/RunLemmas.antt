@@ -1,6 +1,6 @@
 -- Which answers come of what, and what words that were read ask for.
 use Rattle.std.proofs.Common.{IfOk, IfErr, Ok, get_or, ◌≡◌, ℕ, ◌<◌, ◌≤◌, inl, inr, List, [], ◌∷◌, length, Bool, true, false, cond, Some, None, refl, ap, sym, subst, Err, arith}
-use Rattle.std.specs.Prelude.{String, codes}
+use Rattle.std.specs.Prelude.{String, codes, unwrap_or}
 use Rattle.std.specs.String.{string_bytes}
 use Rattle.std.specs.declared.alloc.Global.{Global}
 use Rattle.std.specs.declared.option.Option.{Option}
@@ -24,9 +24,11 @@ use Rattle.sessions.specs.declared.script.Line.TheVariants.{Store, Load, Put, Ge
 use Rattle.sessions.specs.declared.script.Script.{Script}
 use Rattle.cas_tool.specs.declared.answer.Answer.{Answer}
 use Rattle.cas_tool.specs.declared.answer.Answer.TheVariants.{Done, Missing, Usage, ReadFault, WriteFault, FolderFault, Damaged, Full, Poisoned, Dangling, BadScript, Held, TooLarge, NoMemory}
+use Rattle.cas_tool.specs.declared.command.Options.{Options}
 use Rattle.cas_tool.specs.declared.command.Request.{Request}
+use Rattle.cas_tool.specs.declared.command.Setting.TheVariants.{Size}
 use Rattle.cas_tool.specs.declared.command.Task.{Task}
-use Rattle.cas_tool.specs.declared.command.Task.TheVariants.{Once, Batch, Workload, Validate}
+use Rattle.cas_tool.specs.declared.command.Task.TheVariants.{Once, Batch, Workload, Validate, Prune}
 use Rattle.cas_tool.specs.declared.command.Verb.{Verb}
 use Rattle.cas_tool.specs.declared.command.Verb.TheVariants as verb
 use Rattle.cas_tool.specs.declared.command.Command.TheVariants as command
@@ -40,8 +42,9 @@ use Rattle.cas_tool.specs.Front.{NotReached, closed_of}
 use Rattle.cas_tool.specs.Made.{IsOneCall, IsOneCallFor}
 use Rattle.cas_tool.specs.Opening.{OpenCause, OpeningStops}
 use Rattle.cas_tool.specs.Output.{Reports, call_of, refusal_of}
-use Rattle.cas_tool.specs.Run.{Ask, Because, Ends, Outside, Prepares, Refuses, RunPrepares, RunRefuses, SavingStops, ValidatePrepares, ValidateRefuses, WordsRefused, World, save_answer}
-use Rattle.cas_tool.specs.Words.{BeginWith, IsNamedBy, IsSet, dir_of, is_word, task_of, verb_of}
+use Rattle.cas_tool.specs.Pruning.{EnterCause, PruneCause}
+use Rattle.cas_tool.specs.Run.{Ask, Because, Ends, Outside, Prepares, Refuses, RunPrepares, RunRefuses, SavingStops, UpkeepPrepares, UpkeepRefuses, WordsRefused, World, save_answer}
+use Rattle.cas_tool.specs.Words.{BeginWith, HaveOptions, IsGiven, IsNamedBy, dir_of, first_size, is_word, task_of, values_of, verb_of}
 use Rattle.cas_tool.specs.Work.{IsTaskWithin, IsWork, Source, TaskStops}
 
 -- ---- answers of a reply
@@ -108,6 +111,14 @@ reports-denied (report.Reply shows) script replies objects actions given h = of-
 reports-denied report.Lines script replies objects actions given h = absurd h
 reports-denied (report.Summary rounds) script replies objects actions given h = absurd h
 
+-- a task without a script gives a text
+pub upkeep-text : (task : Task) (dir : List ℕ) (size : ℕ) (old new : FolderView) (given : Answer) → UpkeepPrepares task dir size old new (Denied given) → ⊥
+upkeep-text Validate dir size old new given h = h.is
+upkeep-text Prune dir size old new given h = h.is
+upkeep-text (Once command) dir size old new given h = h
+upkeep-text Batch dir size old new given h = h
+upkeep-text (Workload rounds) dir size old new given h = h
+
 pub prepares-denied : (words : List (String Global)) (before after : Outside) (front : Front) (given : Answer) → Prepares words before after front (Denied given) → IsOfReply given
 prepares-denied words before after front given h = elim h.is [
   | inl task ↦
@@ -115,7 +126,7 @@ prepares-denied words before after front given h = elim h.is [
       let closed = closed_of run.has.answered.events in
       reports-denied task.work.report task.work.script run.has.replies (fin.len closed.objects) (fin.len closed.cache) given
       (subst (λ (o : Output). Reports task.work.report task.work.script run.has.replies (fin.len closed.objects) (fin.len closed.cache) o) (sym run.is) run.has.is.reports)
-  | inr check ↦ absurd check.prepares.is
+  | inr upkeep ↦ absurd (upkeep-text h.request.task (string_bytes h.dir) (first_size h.request.options) before.folder after.folder given upkeep.prepares)
 ]
 
 -- ---- answers of what stops
@@ -150,6 +161,7 @@ never-task (Once command) before after given end h = never (TaskStops (Once comm
 never-task Batch before after given end h = never (TaskStops Batch before after) (λ x. x) (λ x. x) given end h
 never-task (Workload rounds) before after given end h = never (TaskStops (Workload rounds) before after) (λ x. cc x.0) (λ x. cc x.0) given end h
 never-task Validate before after given end h = h
+never-task Prune before after given end h = h
 
 never-open : (dir : List ℕ) (old new : FolderView) (given : Answer) → IsEnd given → OpeningStops dir old new given → ⊥
 never-open dir old new given end h = never (OpenCause old new) (λ x. x) (λ x. x) given end h.cause
@@ -160,6 +172,19 @@ never-memory given end h = never (λ (a : Answer). a ≡ NoMemory) (λ x. cc x) 
 never-save : (error : SaveError) (given : Answer) → IsEnd given → given ≡ save_answer error → ⊥
 never-save save.FolderFault given end h = never (λ (a : Answer). a ≡ FolderFault) (λ x. cc x) (λ x. cc x) given end h
 never-save save.Memory given end h = never-memory given end h
+
+never-upkeep : (task : Task) (dir : List ℕ) (size : ℕ) (old new : FolderView) (given : Answer) → IsEnd given → UpkeepRefuses task dir size old new given → ⊥
+never-upkeep Validate dir size old new given end h = elim h [
+  | inl opening ↦ never-open dir old new given end opening
+  | inr checking ↦ never-memory given end checking.memory
+]
+never-upkeep Prune dir size old new given end h = elim h [
+  | inl entering ↦ never (EnterCause old new) (λ x. x) (λ x. x) given end entering.cause
+  | inr pruning ↦ never (PruneCause pruning.between new) (λ x. x) (λ x. x) given end pruning.cause
+]
+never-upkeep (Once command) dir size old new given end h = h
+never-upkeep Batch dir size old new given end h = h
+never-upkeep (Workload rounds) dir size old new given end h = h
 
 never-refused : (words : List (String Global)) (before after : Outside) (front : Front) (given : Answer) → IsEnd given → Refuses words before after front given → ⊥
 never-refused words before after front given end h = elim h [
@@ -174,10 +199,7 @@ never-refused words before after front given end h = elim h [
           | inr saving ↦ never-save saving.stops.error given end saving.stops.is
         ]
       ]
-      | inr check ↦ elim check.refuses [
-        | inl opening ↦ never-open _ before.folder after.folder given end opening
-        | inr checking ↦ never-memory given end checking.memory
-      ]
+      | inr upkeep ↦ never-upkeep stop.request.task (string_bytes stop.dir) (first_size stop.request.options) before.folder after.folder given end upkeep.refuses
     ]
   ]
 ]
@@ -211,6 +233,7 @@ of-task (Once command) before after given of h = never-of (TaskStops (Once comma
 of-task Batch before after given of h = never-of (TaskStops Batch before after) (λ d x. x) (λ f x. x) (λ d e x. x) (λ i d x. x) given of h
 of-task (Workload rounds) before after given of h = of-memory given of h.0
 of-task Validate before after given of h = h
+of-task Prune before after given of h = h
 
 of-open : (old new : FolderView) (given : Answer) → IsOfReply given → OpenCause old new given → ⊥
 of-open old new given of h = never-of (OpenCause old new) (λ d x. x) (λ f x. x) (λ d e x. x) (λ i d x. x) given of h
@@ -218,6 +241,19 @@ of-open old new given of h = never-of (OpenCause old new) (λ d x. x) (λ f x. x
 of-save : (error : SaveError) (given : Answer) → IsOfReply given → given ≡ save_answer error → ⊥
 of-save save.FolderFault given of h = never-of (λ (a : Answer). a ≡ FolderFault) (λ d x. cc x) (λ f x. cc x) (λ d e x. cc x) (λ i d x. cc x) given of h
 of-save save.Memory given of h = of-memory given of h
+
+of-upkeep : (task : Task) (dir : List ℕ) (size : ℕ) (old new : FolderView) (given : Answer) → IsOfReply given → UpkeepRefuses task dir size old new given → ⊥
+of-upkeep Validate dir size old new given of h = elim h [
+  | inl opening ↦ of-open old new given of opening.cause
+  | inr checking ↦ of-memory given of checking.memory
+]
+of-upkeep Prune dir size old new given of h = elim h [
+  | inl entering ↦ never-of (EnterCause old new) (λ d x. x) (λ f x. x) (λ d e x. x) (λ i d x. x) given of entering.cause
+  | inr pruning ↦ never-of (PruneCause pruning.between new) (λ d x. x) (λ f x. x) (λ d e x. x) (λ i d x. x) given of pruning.cause
+]
+of-upkeep (Once command) dir size old new given of h = h
+of-upkeep Batch dir size old new given of h = h
+of-upkeep (Workload rounds) dir size old new given of h = h
 
 pub of-refused : (words : List (String Global)) (before after : Outside) (front : Front) (given : Answer) → IsOfReply given → Refuses words before after front given → ⊥
 of-refused words before after front given of h = elim h [
@@ -232,10 +268,7 @@ of-refused words before after front given of h = elim h [
           | inr saving ↦ of-save saving.stops.error given of saving.stops.is
         ]
       ]
-      | inr check ↦ elim check.refuses [
-        | inl opening ↦ of-open before.folder after.folder given of opening.cause
-        | inr checking ↦ of-memory given of checking.memory
-      ]
+      | inr upkeep ↦ of-upkeep stop.request.task (string_bytes stop.dir) (first_size stop.request.options) before.folder after.folder given of upkeep.refuses
     ]
   ]
 ]
@@ -300,7 +333,8 @@ verb-within word made is =
     (chosen (is_word word (codes "--put-cache-key")) verb.PutCacheKey _ made tt
     (chosen (is_word word (codes "--get-cache-result")) verb.GetCacheResult _ made tt
     (chosen (is_word word (codes "--batch")) verb.Batch _ made tt
-    (chosen (is_word word (codes "--validate")) verb.Validate None made tt (λ none. cc none)))))))) is
+    (chosen (is_word word (codes "--validate")) verb.Validate _ made tt
+    (chosen (is_word word (codes "--prune")) verb.Prune None made tt (λ none. cc none))))))))) is
 
 named-within : (test : Bool) (word : String Global) (words : List (String Global)) (made : Verb) (rest : List (String Global)) → IsNamedBy test word words made rest → IsVerbWithin made
 named-within true word words made rest h = subst IsVerbWithin (sym h.is) h.is_number.high
@@ -322,29 +356,31 @@ task-of : (own task : Task) → IsTaskWithin own → Some own ≡ Some task → 
 task-of own task within is = let same : own ≡ task = cc is in subst IsTaskWithin same within
 
 -- a task with a script is within the limits
-pub task-within : (made : Verb) (digests : List Digest) (task : Task) → IsVerbWithin made → length digests ≤ 65535 → task_of made digests ≡ Some task → (task ≡ Validate → ⊥) → IsTaskWithin task
-task-within verb.MakeBlob [] task within few is not = task-of (Once (command.Make [])) task (omega arith) is
-task-within verb.MakeNode refs task within few is not = task-of (Once (command.Make refs)) task few is
-task-within verb.CatNodeData (digest ∷ []) task within few is not = task-of (Once (command.CatNodeData digest)) task tt is
-task-within verb.LsNodeRefs (digest ∷ []) task within few is not = task-of (Once (command.LsNodeRefs digest)) task tt is
-task-within verb.PutCacheKey (key ∷ value ∷ []) task within few is not = task-of (Once (command.PutCacheKey key value)) task tt is
-task-within verb.GetCacheResult (key ∷ []) task within few is not = task-of (Once (command.GetCacheResult key)) task tt is
-task-within verb.Batch [] task within few is not = task-of Batch task tt is
-task-within (verb.Workload rounds) [] task within few is not = task-of (Workload rounds) task within is
-task-within verb.Validate [] task within few is not = let same : task ≡ Validate = cc is in absurd (not same)
-task-within verb.MakeBlob (a ∷ more) task within few is not = cc is
-task-within verb.CatNodeData [] task within few is not = cc is
-task-within verb.CatNodeData (a ∷ b ∷ more) task within few is not = cc is
-task-within verb.LsNodeRefs [] task within few is not = cc is
-task-within verb.LsNodeRefs (a ∷ b ∷ more) task within few is not = cc is
-task-within verb.PutCacheKey [] task within few is not = cc is
-task-within verb.PutCacheKey (a ∷ []) task within few is not = cc is
-task-within verb.PutCacheKey (a ∷ b ∷ c ∷ more) task within few is not = cc is
-task-within verb.GetCacheResult [] task within few is not = cc is
-task-within verb.GetCacheResult (a ∷ b ∷ more) task within few is not = cc is
-task-within verb.Batch (a ∷ more) task within few is not = cc is
-task-within (verb.Workload rounds) (a ∷ more) task within few is not = cc is
-task-within verb.Validate (a ∷ more) task within few is not = cc is
+pub task-within : (made : Verb) (digests : List Digest) (task : Task) → IsVerbWithin made → length digests ≤ 65535 → task_of made digests ≡ Some task → (task ≡ Validate → ⊥) → (task ≡ Prune → ⊥) → IsTaskWithin task
+task-within verb.MakeBlob [] task within few is not other = task-of (Once (command.Make [])) task (omega arith) is
+task-within verb.MakeNode refs task within few is not other = task-of (Once (command.Make refs)) task few is
+task-within verb.CatNodeData (digest ∷ []) task within few is not other = task-of (Once (command.CatNodeData digest)) task tt is
+task-within verb.LsNodeRefs (digest ∷ []) task within few is not other = task-of (Once (command.LsNodeRefs digest)) task tt is
+task-within verb.PutCacheKey (key ∷ value ∷ []) task within few is not other = task-of (Once (command.PutCacheKey key value)) task tt is
+task-within verb.GetCacheResult (key ∷ []) task within few is not other = task-of (Once (command.GetCacheResult key)) task tt is
+task-within verb.Batch [] task within few is not other = task-of Batch task tt is
+task-within (verb.Workload rounds) [] task within few is not other = task-of (Workload rounds) task within is
+task-within verb.Validate [] task within few is not other = let same : task ≡ Validate = cc is in absurd (not same)
+task-within verb.Prune [] task within few is not other = let same : task ≡ Prune = cc is in absurd (other same)
+task-within verb.MakeBlob (a ∷ more) task within few is not other = cc is
+task-within verb.CatNodeData [] task within few is not other = cc is
+task-within verb.CatNodeData (a ∷ b ∷ more) task within few is not other = cc is
+task-within verb.LsNodeRefs [] task within few is not other = cc is
+task-within verb.LsNodeRefs (a ∷ b ∷ more) task within few is not other = cc is
+task-within verb.PutCacheKey [] task within few is not other = cc is
+task-within verb.PutCacheKey (a ∷ []) task within few is not other = cc is
+task-within verb.PutCacheKey (a ∷ b ∷ c ∷ more) task within few is not other = cc is
+task-within verb.GetCacheResult [] task within few is not other = cc is
+task-within verb.GetCacheResult (a ∷ b ∷ more) task within few is not other = cc is
+task-within verb.Batch (a ∷ more) task within few is not other = cc is
+task-within (verb.Workload rounds) (a ∷ more) task within few is not other = cc is
+task-within verb.Validate (a ∷ more) task within few is not other = cc is
+task-within verb.Prune (a ∷ more) task within few is not other = cc is
 
 -- where one reply is reported, the work's script is that of one call
 pub one-call : (task : Task) (before after : Source) (work : Work) → IsWork task before after work → IsOneCall work
@@ -352,6 +388,7 @@ one-call (Once own) before after work h = subst (λ (r : Report). IsOneCallFor r
 one-call Batch before after work h = subst (λ (r : Report). IsOneCallFor r work) (sym h.report_is) tt
 one-call (Workload rounds) before after work h = subst (λ (r : Report). IsOneCallFor r work) (sym h.report_is) tt
 one-call Validate before after work h = absurd h
+one-call Prune before after work h = absurd h
 
 -- an image that was due was not saved
 pub saving-stops :
@@ -366,10 +403,15 @@ saving-stops number due image bytes old new result error is same saves failed = 
 }
 
 -- the size that is set lies within its limits
-pub size-within : (values : List (String Global)) (size : ℕ) → IsSet 4096 67108864 4194304 values size → (4096 ≤ size) × (size ≤ 67108864)
-size-within [] size h = (omega (arith, h), omega (arith, h))
-size-within (value ∷ []) size h = (h.low, h.high)
-size-within (value ∷ other ∷ values) size h = absurd h
+size-given : (values : List (String Global)) (size : Option ℕ) → IsGiven 4096 67108864 values size → (4096 ≤ unwrap_or size 4194304) × (unwrap_or size 4194304 ≤ 67108864)
+size-given [] None h = (omega arith, omega arith)
+size-given [] (Some number) h = cc h
+size-given (value ∷ []) None h = absurd h
+size-given (value ∷ []) (Some number) h = (h.low, h.high)
+size-given (value ∷ other ∷ values) size h = absurd h
+
+pub size-within : (words : List (String Global)) (options : Options) → HaveOptions words options → (4096 ≤ first_size options) × (first_size options ≤ 67108864)
+size-within words options have = size-given (values_of Size words) options.size have.size
 
 -- ---- the whole run
 
@@ -400,51 +442,65 @@ dir-named [] dir other long is = absurd (omega (arith, long))
 dir-named (cas ∷ []) dir other long is = absurd (omega (arith, long))
 dir-named (cas ∷ own ∷ words) dir other long is = ap Some (sym is)
 
-module _ (words : List (String Global)) (request : Request) (dir : String Global) (path : List ℕ) (ask : Ask words request dir) (is : path ≡ string_bytes dir) where
-  pub check-prepares :
-      (before : Outside) (folder : FolderView) (front : Front) (result : Result Output Answer) → request.task ≡ Validate → NotReached front
-      → IfOk result (λ output. ValidatePrepares path request.options.size before.folder folder output)
+module _ (words : List (String Global)) (request : Request) (dir : String Global) (path : List ℕ) (size : ℕ) (ask : Ask words request dir) (is : path ≡ string_bytes dir) (size_is : size ≡ first_size request.options) where
+  pub upkeep-prepares :
+      (task : Task) (before : Outside) (folder : FolderView) (front : Front) (result : Result Output Answer) → request.task ≡ task → NotReached front
+      → IfOk result (λ output. UpkeepPrepares task path size before.folder folder output)
       → IfOk result (λ output. Prepares words before (record { source = before.source; folder = folder }) front output)
-  check-prepares before folder front (Err given) task none h = tt
-  check-prepares before folder front (Ok output) task none h = record {
+  upkeep-prepares task before folder front (Err given) task_is none h = tt
+  upkeep-prepares task before folder front (Ok output) task_is none h = record {
     request = request;
     dir = dir;
     ask = ask;
-    is = inr (record { task_is = task; unread = refl; no_run = none; prepares = subst (λ (bs : List ℕ). ValidatePrepares bs request.options.size before.folder folder output) is h });
+    is = inr (record {
+      unread = refl;
+      no_run = none;
+      prepares =
+          subst (λ (bs : List ℕ). UpkeepPrepares request.task bs (first_size request.options) before.folder folder output) is
+          (subst (λ (n : ℕ). UpkeepPrepares request.task path n before.folder folder output) size_is
+          (subst (λ (t : Task). UpkeepPrepares t path size before.folder folder output) (sym task_is) h));
+    });
   }
 
-  pub check-refuses :
-      (before : Outside) (folder : FolderView) (front : Front) (result : Result Output Answer) → request.task ≡ Validate → NotReached front
-      → IfErr result (λ answer. ValidateRefuses path request.options.size before.folder folder answer)
+  pub upkeep-refuses :
+      (task : Task) (before : Outside) (folder : FolderView) (front : Front) (result : Result Output Answer) → request.task ≡ task → NotReached front
+      → IfErr result (λ answer. UpkeepRefuses task path size before.folder folder answer)
       → IfErr result (λ answer. Refuses words before (record { source = before.source; folder = folder }) front answer)
-  check-refuses before folder front (Ok output) task none h = tt
-  check-refuses before folder front (Err given) task none h = inr (record {
+  upkeep-refuses task before folder front (Ok output) task_is none h = tt
+  upkeep-refuses task before folder front (Err given) task_is none h = inr (record {
     request = request;
     dir = dir;
     ask = ask;
-    is = inr (inr (record { task_is = task; unread = refl; no_run = none; refuses = subst (λ (bs : List ℕ). ValidateRefuses bs request.options.size before.folder folder given) is h }));
+    is = inr (inr (record {
+      unread = refl;
+      no_run = none;
+      refuses =
+          subst (λ (bs : List ℕ). UpkeepRefuses request.task bs (first_size request.options) before.folder folder given) is
+          (subst (λ (n : ℕ). UpkeepRefuses request.task path n before.folder folder given) size_is
+          (subst (λ (t : Task). UpkeepRefuses t path size before.folder folder given) (sym task_is) h));
+    }));
   })
 
   pub task-prepares :
       (before after : Outside) (front : Front) (work : Work) (result : Result Output Answer) → IsWork request.task before.source after.source work
-      → IfOk result (λ output. RunPrepares path request.options.size work before.folder after.folder front output) → IfOk result (λ output. Prepares words before after front output)
+      → IfOk result (λ output. RunPrepares path size work before.folder after.folder front output) → IfOk result (λ output. Prepares words before after front output)
   task-prepares before after front work (Err given) is_work h = tt
   task-prepares before after front work (Ok output) is_work h = record {
     request = request;
     dir = dir;
     ask = ask;
-    is = inl (record { work = work; is_work = is_work; prepares = subst (λ (bs : List ℕ). RunPrepares bs request.options.size work before.folder after.folder front output) is h });
+    is = inl (record { work = work; is_work = is_work; prepares = subst (λ (bs : List ℕ). RunPrepares bs (first_size request.options) work before.folder after.folder front output) is (subst (λ (n : ℕ). RunPrepares path n work before.folder after.folder front output) size_is h) });
   }
 
   pub task-refuses :
       (before after : Outside) (front : Front) (work : Work) (result : Result Output Answer) → IsWork request.task before.source after.source work
-      → IfErr result (λ answer. RunRefuses path request.options.size work before.folder after.folder front answer) → IfErr result (λ answer. Refuses words before after front answer)
+      → IfErr result (λ answer. RunRefuses path size work before.folder after.folder front answer) → IfErr result (λ answer. Refuses words before after front answer)
   task-refuses before after front work (Ok output) is_work h = tt
   task-refuses before after front work (Err given) is_work h = inr (record {
     request = request;
     dir = dir;
     ask = ask;
-    is = inr (inl (record { work = work; is_work = is_work; refuses = subst (λ (bs : List ℕ). RunRefuses bs request.options.size work before.folder after.folder front given) is h }));
+    is = inr (inl (record { work = work; is_work = is_work; refuses = subst (λ (bs : List ℕ). RunRefuses bs (first_size request.options) work before.folder after.folder front given) is (subst (λ (n : ℕ). RunRefuses path n work before.folder after.folder front given) size_is h) }));
   })
 
   pub work-stops :

@@ -17,6 +17,7 @@ use Rattle.cas_tool.specs.declared.output.Output.TheVariants.{Denied}
 use Rattle.cas_tool.specs.Front.{Answered, NotReached, Ran}
 use Rattle.cas_tool.specs.Opening.{HasOpened}
 use Rattle.cas_tool.specs.Run.{Because, Outside, Prepares, Refuses, World}
+use Rattle.cas_tool.specs.Words.{first_size}
 
 abbrev pub answered-ran : (opened : FrozenSeen) (script : Script) (replies : Replies) (front : Front) → Answered opened script replies front → Ran opened script front
 answered-ran opened script replies front h = record { events = h.events; is = h.is; size = h.size; counter = h.counter; runs = h.answers.runs }
@@ -47,20 +48,20 @@ refuses-run words before after front given h = elim h [
         | inr later ↦ elim later [
           | inl running ↦ elim running.ran [
             | inl none ↦ inl none
-            | inr ran ↦ inr (record { size = stop.request.options.size; between = after.folder; opened = running.opened; is = running.opens.is; script = task.work.script; ran = ran })
+            | inr ran ↦ inr (record { size = first_size stop.request.options; between = after.folder; opened = running.opened; is = running.opens.is; script = task.work.script; ran = ran })
           ]
-          | inr saving ↦ inr (answered-run (string_bytes stop.dir) stop.request.options.size before.folder saving.between saving.opened task.work.script saving.has.replies front saving.opens saving.has.answered)
+          | inr saving ↦ inr (answered-run (string_bytes stop.dir) (first_size stop.request.options) before.folder saving.between saving.opened task.work.script saving.has.replies front saving.opens saving.has.answered)
         ]
       ]
-      | inr check ↦ inl check.no_run
+      | inr upkeep ↦ inl upkeep.no_run
     ]
   ]
 ]
 
 prepares-run : (words : List (String Global)) (before after : Outside) (front : Front) (output : Output) → Prepares words before after front output → NotReached front ⊎ HasRun before.folder front
 prepares-run words before after front output h = elim h.is [
-  | inl task ↦ inr (answered-run (string_bytes h.dir) h.request.options.size before.folder task.prepares.between task.prepares.opened task.work.script task.prepares.has.replies front task.prepares.opens task.prepares.has.answered)
-  | inr check ↦ inl check.no_run
+  | inl task ↦ inr (answered-run (string_bytes h.dir) (first_size h.request.options) before.folder task.prepares.between task.prepares.opened task.work.script task.prepares.has.replies front task.prepares.opens task.prepares.has.answered)
+  | inr upkeep ↦ inl upkeep.no_run
 ]
 
 nothing-run : (words : List (String Global)) (before after : Outside) (front : Front) (given : Answer) → Refuses words before after front given ⊎ Prepares words before after front (Denied given)

@@ -1,14 +1,16 @@
 -- Words after a command, one after the other: options with their values, and operands.
 use Rattle.std.proofs.Common.{◌≡◌, ℕ, suc, ◌+◌, ◌-◌, ◌≤◌, List, [], ◌∷◌, Bool, true, false, not, ◌&&◌, Some, None, length, take, drop, get_or, refl, ap, sym, subst, ◌∙◌, arith}
-use Rattle.std.specs.Prelude.{String, unwrap_or}
+use Rattle.std.specs.Prelude.{String, IfNone, IfSome, unwrap_or}
 use Rattle.std.specs.String.{string_bytes}
 use Rattle.std.specs.declared.alloc.Global.{Global}
 use Rattle.std.specs.declared.option.Option.{Option}
 use Rattle.cas_tool.specs.declared.command.Options.{Options}
 use Rattle.cas_tool.specs.declared.command.Setting.{Setting}
-use Rattle.cas_tool.specs.declared.command.Setting.TheVariants.{Workers, Size}
+use Rattle.cas_tool.specs.declared.command.Setting.TheVariants.{Workers, Size, Limit}
+use Rattle.cas_tool.specs.declared.words.Given.{Given}
 use Rattle.cas_tool.proofs.WordLemmas.{first-rest}
-use Rattle.cas_tool.specs.Words.{HaveOptions, IsNumberWithin, IsSet, begins_dash, is_split, operands_at, operands_of, setting_of, split_at, values_at, values_of}
+use Rattle.cas_tool.specs.Splitting.{IsValueOf, IsWith, given_for, given_options, no_settings, with_number}
+use Rattle.cas_tool.specs.Words.{HaveOptions, IsGiven, IsNumberWithin, IsSet, begins_dash, is_split, operands_at, operands_of, setting_of, split_at, values_at, values_of}
 
 -- ---- one piece
 
@@ -65,75 +67,124 @@ seen-value : (least most : ℕ) (all left : List (String Global)) (value : Strin
 seen-value least most all left value None number none is seen = (value, seen, is)
 seen-value least most all left value (Some other) number none is seen = cc none
 
--- a value that is no number, or one more value
-only-one : (least most default : ℕ) (value : String Global) (left : List (String Global)) (number : ℕ) → ((n : ℕ) → ¬ IsNumberWithin least most (string_bytes value) n)
-    → ¬ IsSet least most default (value ∷ left) number
-only-one least most default value [] number not_one is = not_one number is
-only-one least most default value (other ∷ left) number not_one is = is
+-- no number is set by a value that is none, or by one more value
+abbrev pub IsUnset : ℕ → ℕ → List (String Global) → Type 0
+IsUnset least most values = ((default number : ℕ) → ¬ IsSet least most default values number) × ((given : Option ℕ) → ¬ IsGiven least most values given)
 
-pub seen-bad : (least most default : ℕ) (all left : List (String Global)) (value : String Global) (given : Option ℕ) (number : ℕ)
-    → (given ≡ None → (n : ℕ) → ¬ IsNumberWithin least most (string_bytes value) n) → Seen least most all (value ∷ left) given → ¬ IsSet least most default all number
-seen-bad least most default all left value None number bad seen is =
-    only-one least most default value left number (bad refl) (subst (λ (vs : List (String Global)). IsSet least most default vs number) seen is)
-seen-bad least most default all left value (Some given) number bad seen is = subst (λ (vs : List (String Global)). IsSet least most default vs number) seen.1 is
+only-one : (least most : ℕ) (value : String Global) (left : List (String Global)) → ((n : ℕ) → ¬ IsNumberWithin least most (string_bytes value) n) → IsUnset least most (value ∷ left)
+only-one least most value [] not_one = (λ default number is. not_one number is, λ given. elim given as (λ g. ¬ IsGiven least most (value ∷ []) g) [ None ↦ λ is. is | Some number ↦ λ is. not_one number is ])
+only-one least most value (other ∷ left) not_one = (λ default number is. is, λ given is. is)
 
-seen-all : (least most default : ℕ) (all : List (String Global)) (given : Option ℕ) → Seen least most all [] given → IsSet least most default all (unwrap_or given default)
+two : (least most : ℕ) (first second : String Global) (left : List (String Global)) → IsUnset least most (first ∷ second ∷ left)
+two least most first second left = (λ default number is. is, λ given is. is)
+
+pub seen-bad : (least most : ℕ) (all left : List (String Global)) (value : String Global) (given : Option ℕ)
+    → (given ≡ None → (n : ℕ) → ¬ IsNumberWithin least most (string_bytes value) n) → Seen least most all (value ∷ left) given → IsUnset least most all
+seen-bad least most all left value None bad seen = subst (IsUnset least most) (sym seen) (only-one least most value left (bad refl))
+seen-bad least most all left value (Some given) bad seen = subst (IsUnset least most) (sym seen.1) (two least most seen.0 value left)
+
+pub seen-all : (least most default : ℕ) (all : List (String Global)) (given : Option ℕ) → Seen least most all [] given → IsSet least most default all (unwrap_or given default)
 seen-all least most default all None seen = subst (λ (vs : List (String Global)). IsSet least most default vs default) (sym seen) refl
 seen-all least most default all (Some number) seen = subst (λ (vs : List (String Global)). IsSet least most default vs number) (sym seen.1) seen.2
+
+pub seen-given : (least most : ℕ) (all : List (String Global)) (given : Option ℕ) → Seen least most all [] given → IsGiven least most all given
+seen-given least most all None seen = subst (λ (vs : List (String Global)). IsGiven least most vs None) (sym seen) refl
+seen-given least most all (Some number) seen = subst (λ (vs : List (String Global)). IsGiven least most vs (Some number)) (sym seen.1) seen.2
+
+-- a number that is set lies within its bounds
+pub seen-within : (least most : ℕ) (all left : List (String Global)) (given : Option ℕ) → Seen least most all left given → IfSome given (λ number. number ≤ most)
+seen-within least most all left None seen = tt
+seen-within least most all left (Some number) seen = seen.2.high
 
 -- ---- the words so far
 
 -- of these words the rest is left, and those before it have so many operands and set these numbers
-pub record SoFar (words rest : List (String Global)) (count : ℕ) (workers size : Option ℕ) : Type 0 where
+pub record SoFar (words rest : List (String Global)) (count : ℕ) (given : Given) : Type 0 where
   pub split : is_split words ≡ is_split rest
   pub operands : count + length (operands_of rest) ≡ length (operands_of words)
-  pub workers_are : Seen 1 64 (values_of Workers words) (values_of Workers rest) workers
-  pub size_is : Seen 4096 67108864 (values_of Size words) (values_of Size rest) size
+  pub workers_are : Seen 1 64 (values_of Workers words) (values_of Workers rest) given.workers
+  pub size_is : Seen 4096 67108864 (values_of Size words) (values_of Size rest) given.size
+  pub limit_is : Seen 0 1099511627776 (values_of Limit words) (values_of Limit rest) given.limit
 
-pub so-far-none : (words : List (String Global)) → SoFar words words 0 None None
-so-far-none words = record { split = refl; operands = omega arith; workers_are = refl; size_is = refl }
+so-far-none : (words : List (String Global)) → SoFar words words 0 no_settings
+so-far-none words = record { split = refl; operands = omega arith; workers_are = refl; size_is = refl; limit_is = refl }
 
-pub so-far-operand : (words more : List (String Global)) (word : String Global) (count : ℕ) (workers size : Option ℕ) → setting_of word ≡ None → begins_dash (string_bytes word) ≡ false
-    → SoFar words (word ∷ more) count workers size → SoFar words more (count + 1) workers size
-so-far-operand words more word count workers size none plain so = record {
+pub so-far-first : (words : List (String Global)) (given : Given) → given ≡ no_settings → SoFar words words 0 given
+so-far-first words given none = subst (SoFar words words 0) (sym none) (so-far-none words)
+
+so-far-operand : (words more : List (String Global)) (word : String Global) (count : ℕ) (given : Given) → setting_of word ≡ None → begins_dash (string_bytes word) ≡ false
+    → SoFar words (word ∷ more) count given → SoFar words more (count + 1) given
+so-far-operand words more word count given none plain so = record {
   split = so.split ∙ split-word word more none ∙ ap (λ (b : Bool). not b && is_split more) plain;
   operands =
       let longer : length (operands_of (word ∷ more)) ≡ suc (length (operands_of more)) = ap length (operands-word word more none) in
       let before = so.operands in
       omega arith;
-  workers_are = seen-same 1 64 _ _ _ workers (values-word Workers word more none) so.workers_are;
-  size_is = seen-same 4096 67108864 _ _ _ size (values-word Size word more none) so.size_is;
+  workers_are = seen-same 1 64 _ _ _ given.workers (values-word Workers word more none) so.workers_are;
+  size_is = seen-same 4096 67108864 _ _ _ given.size (values-word Size word more none) so.size_is;
+  limit_is = seen-same 0 1099511627776 _ _ _ given.limit (values-word Limit word more none) so.limit_is;
 }
 
-same-count : (words rest other : List (String Global)) (count : ℕ) → operands_of rest ≡ operands_of other → count + length (operands_of rest) ≡ length (operands_of words)
-    → count + length (operands_of other) ≡ length (operands_of words)
-same-count words rest other count same is = ap (λ (os : List (String Global)). count + length os) (sym same) ∙ is
+-- the same after an option and its value, but for the numbers
+record PastOption (words after : List (String Global)) (value : String Global) (own : Setting) (count : ℕ) (given : Given) : Type 0 where
+  split : is_split words ≡ is_split after
+  operands : count + length (operands_of after) ≡ length (operands_of words)
+  workers_are : Seen 1 64 (values_of Workers words) (values_at Workers (Some own) value (values_of Workers after) (values_of Workers (value ∷ after))) given.workers
+  size_is : Seen 4096 67108864 (values_of Size words) (values_at Size (Some own) value (values_of Size after) (values_of Size (value ∷ after))) given.size
+  limit_is : Seen 0 1099511627776 (values_of Limit words) (values_at Limit (Some own) value (values_of Limit after) (values_of Limit (value ∷ after))) given.limit
 
-pub so-far-workers : (words after : List (String Global)) (word value : String Global) (count : ℕ) (workers size : Option ℕ) (number : ℕ) → setting_of word ≡ Some Workers
-    → workers ≡ None → IsNumberWithin 1 64 (string_bytes value) number → SoFar words (word ∷ value ∷ after) count workers size → SoFar words after count (Some number) size
-so-far-workers words after word value count workers size number named none is so = record {
-  split = so.split ∙ split-option word value after Workers named;
-  operands = same-count words (word ∷ value ∷ after) after count (operands-option word value after Workers named) so.operands;
-  workers_are = seen-value 1 64 _ _ value workers number none is (seen-same 1 64 _ _ _ workers (values-option Workers word value after Workers named) so.workers_are);
-  size_is = seen-same 4096 67108864 _ _ _ size (values-option Size word value after Workers named) so.size_is;
+past-option : (words after : List (String Global)) (word value : String Global) (own : Setting) (count : ℕ) (given : Given) → setting_of word ≡ Some own
+    → SoFar words (word ∷ value ∷ after) count given → PastOption words after value own count given
+past-option words after word value own count given named so = record {
+  split = so.split ∙ split-option word value after own named;
+  operands = ap (λ (os : List (String Global)). count + length os) (sym (operands-option word value after own named)) ∙ so.operands;
+  workers_are = seen-same 1 64 _ _ _ given.workers (values-option Workers word value after own named) so.workers_are;
+  size_is = seen-same 4096 67108864 _ _ _ given.size (values-option Size word value after own named) so.size_is;
+  limit_is = seen-same 0 1099511627776 _ _ _ given.limit (values-option Limit word value after own named) so.limit_is;
 }
 
-pub so-far-size : (words after : List (String Global)) (word value : String Global) (count : ℕ) (workers size : Option ℕ) (number : ℕ) → setting_of word ≡ Some Size
-    → size ≡ None → IsNumberWithin 4096 67108864 (string_bytes value) number → SoFar words (word ∷ value ∷ after) count workers size → SoFar words after count workers (Some number)
-so-far-size words after word value count workers size number named none is so = record {
-  split = so.split ∙ split-option word value after Size named;
-  operands = same-count words (word ∷ value ∷ after) after count (operands-option word value after Size named) so.operands;
-  workers_are = seen-same 1 64 _ _ _ workers (values-option Workers word value after Size named) so.workers_are;
-  size_is = seen-value 4096 67108864 _ _ value size number none is (seen-same 4096 67108864 _ _ _ size (values-option Size word value after Size named) so.size_is);
-}
-
-pub so-far-all : (words : List (String Global)) (count : ℕ) (workers size : Option ℕ) → SoFar words [] count workers size
-    → HaveOptions words (record { workers = unwrap_or workers 1; size = unwrap_or size 4194304 })
-so-far-all words count workers size so = record {
+-- one option can stand once
+option-set : (words after : List (String Global)) (value : String Global) (own : Setting) (count : ℕ) (given : Given) (number : ℕ) → given_for own given ≡ None
+    → IsValueOf own (string_bytes value) number → PastOption words after value own count given → SoFar words after count (with_number own number given)
+option-set words after value Workers count given number none is so = record {
   split = so.split;
-  workers = seen-all 1 64 1 (values_of Workers words) workers so.workers_are;
-  size = seen-all 4096 67108864 4194304 (values_of Size words) size so.size_is;
+  operands = so.operands;
+  workers_are = seen-value 1 64 _ _ value given.workers number none is so.workers_are;
+  size_is = so.size_is;
+  limit_is = so.limit_is;
 }
+option-set words after value Size count given number none is so = record {
+  split = so.split;
+  operands = so.operands;
+  workers_are = so.workers_are;
+  size_is = seen-value 4096 67108864 _ _ value given.size number none is so.size_is;
+  limit_is = so.limit_is;
+}
+option-set words after value Limit count given number none is so = record {
+  split = so.split;
+  operands = so.operands;
+  workers_are = so.workers_are;
+  size_is = so.size_is;
+  limit_is = seen-value 0 1099511627776 _ _ value given.limit number none is so.limit_is;
+}
+
+-- no options are as these words say, since this one has no number, or stands twice
+option-unset : (words after : List (String Global)) (value : String Global) (own : Setting) (count : ℕ) (given : Given)
+    → (given_for own given ≡ None → (n : ℕ) → ¬ IsValueOf own (string_bytes value) n) → PastOption words after value own count given → (options : Options) → ¬ HaveOptions words options
+option-unset words after value Workers count given bad so options have = (seen-bad 1 64 _ _ value given.workers bad so.workers_are).0 1 options.workers have.workers
+option-unset words after value Size count given bad so options have = (seen-bad 4096 67108864 _ _ value given.size bad so.size_is).1 options.size have.size
+option-unset words after value Limit count given bad so options have = (seen-bad 0 1099511627776 _ _ value given.limit bad so.limit_is).1 options.limit have.limit
+
+pub so-far-all : (words : List (String Global)) (count : ℕ) (given : Given) → SoFar words [] count given → HaveOptions words (given_options given)
+so-far-all words count given so = record {
+  split = so.split;
+  workers = seen-all 1 64 1 (values_of Workers words) given.workers so.workers_are;
+  size = seen-given 4096 67108864 (values_of Size words) given.size so.size_is;
+  limit = seen-given 0 1099511627776 (values_of Limit words) given.limit so.limit_is;
+}
+
+pub workers-within : (words rest : List (String Global)) (count : ℕ) (given : Given) → SoFar words rest count given → IfSome given.workers (λ workers. workers ≤ 64)
+workers-within words rest count given so = seen-within 1 64 _ _ given.workers so.workers_are
 
 -- ---- words that are refused
 
@@ -143,51 +194,48 @@ no-value-split word own is = ap (λ (o : Option Setting). split_at o word false 
 not-split : (words : List (String Global)) → is_split words ≡ false → (options : Options) → ¬ HaveOptions words options
 not-split words is options have = cc (is, have.split)
 
-pub no-value : (words : List (String Global)) (word : String Global) (own : Setting) (count : ℕ) (workers size : Option ℕ) → setting_of word ≡ Some own
-    → SoFar words (word ∷ []) count workers size → (options : Options) → ¬ HaveOptions words options
-no-value words word own count workers size is so = not-split words (so.split ∙ no-value-split word own is)
+pub no-value : (words : List (String Global)) (word : String Global) (own : Setting) (count : ℕ) (given : Given) → setting_of word ≡ Some own
+    → SoFar words (word ∷ []) count given → (options : Options) → ¬ HaveOptions words options
+no-value words word own count given is so = not-split words (so.split ∙ no-value-split word own is)
 
-pub other-option : (words more : List (String Global)) (word : String Global) (count : ℕ) (workers size : Option ℕ) → setting_of word ≡ None → begins_dash (string_bytes word) ≡ true
-    → SoFar words (word ∷ more) count workers size → (options : Options) → ¬ HaveOptions words options
-other-option words more word count workers size none dash so =
+pub other-option : (words more : List (String Global)) (word : String Global) (count : ℕ) (given : Given) → setting_of word ≡ None → begins_dash (string_bytes word) ≡ true
+    → SoFar words (word ∷ more) count given → (options : Options) → ¬ HaveOptions words options
+other-option words more word count given none dash so =
     not-split words (so.split ∙ split-word word more none ∙ ap (λ (b : Bool). not b && is_split more) dash)
-
-pub bad-workers : (words after : List (String Global)) (word value : String Global) (count : ℕ) (workers size : Option ℕ) → setting_of word ≡ Some Workers
-    → (workers ≡ None → (n : ℕ) → ¬ IsNumberWithin 1 64 (string_bytes value) n) → SoFar words (word ∷ value ∷ after) count workers size → (options : Options) → ¬ HaveOptions words options
-bad-workers words after word value count workers size named bad so options have =
-    seen-bad 1 64 1 _ _ value workers options.workers bad (seen-same 1 64 _ _ _ workers (values-option Workers word value after Workers named) so.workers_are) have.workers
-
-pub bad-size : (words after : List (String Global)) (word value : String Global) (count : ℕ) (workers size : Option ℕ) → setting_of word ≡ Some Size
-    → (size ≡ None → (n : ℕ) → ¬ IsNumberWithin 4096 67108864 (string_bytes value) n) → SoFar words (word ∷ value ∷ after) count workers size → (options : Options) → ¬ HaveOptions words options
-bad-size words after word value count workers size named bad so options have =
-    seen-bad 4096 67108864 4194304 _ _ value size options.size bad (seen-same 4096 67108864 _ _ _ size (values-option Size word value after Size named) so.size_is) have.size
 
 -- ---- the same over slices
 
-pub operand-step : (words rest : List (String Global)) (word : String Global) (count : ℕ) (workers size : Option ℕ) → 1 ≤ length rest → word ≡ get_or rest 0 word → setting_of word ≡ None
-    → begins_dash (string_bytes word) ≡ false → SoFar words rest count workers size → SoFar words (take (length rest - 1) (drop 1 rest)) (count + 1) workers size
-operand-step words rest word count workers size some is none plain so =
-    so-far-operand words (take (length rest - 1) (drop 1 rest)) word count workers size none plain
-    (subst (λ (r : List (String Global)). SoFar words r count workers size) (first-rest rest word some is) so)
+pub operand-step : (words rest : List (String Global)) (word : String Global) (count : ℕ) (given : Given) → 1 ≤ length rest → word ≡ get_or rest 0 word → setting_of word ≡ None
+    → begins_dash (string_bytes word) ≡ false → SoFar words rest count given → SoFar words (take (length rest - 1) (drop 1 rest)) (count + 1) given
+operand-step words rest word count given some is none plain so =
+    so-far-operand words (take (length rest - 1) (drop 1 rest)) word count given none plain
+    (subst (λ (r : List (String Global)). SoFar words r count given) (first-rest rest word some is) so)
 
--- the option and its value, which the rest begins with
-pub two-rest : (words rest more : List (String Global)) (word value : String Global) (count : ℕ) (workers size : Option ℕ) → 1 ≤ length rest → word ≡ get_or rest 0 word
-    → more ≡ take (length rest - 1) (drop 1 rest) → 1 ≤ length more → value ≡ get_or more 0 value → SoFar words rest count workers size
-    → SoFar words (word ∷ value ∷ take (length more - 1) (drop 1 more)) count workers size
-two-rest words rest more word value count workers size some is more_is more_some value_is so =
-    subst (λ (r : List (String Global)). SoFar words r count workers size)
-    (first-rest rest word some is ∙ ap (λ (l : List (String Global)). word ∷ l) (sym more_is ∙ first-rest more value more_some value_is)) so
+-- past the option and its value, which the rest begins with
+past-two : (words rest more : List (String Global)) (word value : String Global) (own : Setting) (count : ℕ) (given : Given) → 1 ≤ length rest → word ≡ get_or rest 0 word
+    → more ≡ take (length rest - 1) (drop 1 rest) → 1 ≤ length more → value ≡ get_or more 0 value → setting_of word ≡ Some own → SoFar words rest count given
+    → PastOption words (take (length more - 1) (drop 1 more)) value own count given
+past-two words rest more word value own count given some is more_is more_some value_is named so =
+    past-option words (take (length more - 1) (drop 1 more)) word value own count given named
+    (subst (λ (r : List (String Global)). SoFar words r count given)
+    (first-rest rest word some is ∙ ap (λ (l : List (String Global)). word ∷ l) (sym more_is ∙ first-rest more value more_some value_is)) so)
 
-pub workers-step : (words rest more : List (String Global)) (word value : String Global) (count : ℕ) (workers size : Option ℕ) (number : ℕ) → 1 ≤ length rest → word ≡ get_or rest 0 word
-    → more ≡ take (length rest - 1) (drop 1 rest) → 1 ≤ length more → value ≡ get_or more 0 value → setting_of word ≡ Some Workers → workers ≡ None
-    → IsNumberWithin 1 64 (string_bytes value) number → SoFar words rest count workers size → SoFar words (take (length more - 1) (drop 1 more)) count (Some number) size
-workers-step words rest more word value count workers size number some is more_is more_some value_is named none number_is so =
-    so-far-workers words (take (length more - 1) (drop 1 more)) word value count workers size number named none number_is
-    (two-rest words rest more word value count workers size some is more_is more_some value_is so)
+pub option-step : (words rest more : List (String Global)) (word value : String Global) (own : Setting) (count : ℕ) (given new : Given) → 1 ≤ length rest → word ≡ get_or rest 0 word
+    → more ≡ take (length rest - 1) (drop 1 rest) → 1 ≤ length more → value ≡ get_or more 0 value → setting_of word ≡ Some own → IsWith own (string_bytes value) given new
+    → SoFar words rest count given → SoFar words (take (length more - 1) (drop 1 more)) count new
+option-step words rest more word value own count given new some is more_is more_some value_is named added so =
+    subst (SoFar words (take (length more - 1) (drop 1 more)) count) (sym added.is)
+    (option-set words (take (length more - 1) (drop 1 more)) value own count given added.number added.first added.is_number
+    (past-two words rest more word value own count given some is more_is more_some value_is named so))
 
-pub size-step : (words rest more : List (String Global)) (word value : String Global) (count : ℕ) (workers size : Option ℕ) (number : ℕ) → 1 ≤ length rest → word ≡ get_or rest 0 word
-    → more ≡ take (length rest - 1) (drop 1 rest) → 1 ≤ length more → value ≡ get_or more 0 value → setting_of word ≡ Some Size → size ≡ None
-    → IsNumberWithin 4096 67108864 (string_bytes value) number → SoFar words rest count workers size → SoFar words (take (length more - 1) (drop 1 more)) count workers (Some number)
-size-step words rest more word value count workers size number some is more_is more_some value_is named none number_is so =
-    so-far-size words (take (length more - 1) (drop 1 more)) word value count workers size number named none number_is
-    (two-rest words rest more word value count workers size some is more_is more_some value_is so)
+pub bad-option : (words rest more : List (String Global)) (word value : String Global) (own : Setting) (count : ℕ) (given : Given) → 1 ≤ length rest → word ≡ get_or rest 0 word
+    → more ≡ take (length rest - 1) (drop 1 rest) → 1 ≤ length more → value ≡ get_or more 0 value → setting_of word ≡ Some own
+    → (given_for own given ≡ None → (n : ℕ) → ¬ IsValueOf own (string_bytes value) n) → SoFar words rest count given → (options : Options) → ¬ HaveOptions words options
+bad-option words rest more word value own count given some is more_is more_some value_is named bad so =
+    option-unset words (take (length more - 1) (drop 1 more)) value own count given bad
+    (past-two words rest more word value own count given some is more_is more_some value_is named so)
+
+-- what holds, holds where there is nothing
+pub where-none : {X P : Type 0} (given : Option X) → P → IfNone given P
+where-none None holds = holds
+where-none (Some x) holds = tt

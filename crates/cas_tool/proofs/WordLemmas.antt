@@ -16,7 +16,7 @@ use Rattle.cas_tool.specs.declared.command.Options.{Options}
 use Rattle.cas_tool.specs.declared.command.Request.{Request}
 use Rattle.cas_tool.specs.declared.command.Task.TheVariants as task
 use Rattle.cas_tool.specs.declared.command.Verb.{Verb}
-use Rattle.cas_tool.specs.declared.command.Verb.TheVariants.{MakeBlob, MakeNode, CatNodeData, LsNodeRefs, PutCacheKey, GetCacheResult, Batch, Workload, Validate}
+use Rattle.cas_tool.specs.declared.command.Verb.TheVariants.{MakeBlob, MakeNode, CatNodeData, LsNodeRefs, PutCacheKey, GetCacheResult, Batch, Workload, Validate, Prune}
 use Rattle.cas_tool.specs.Run.{OperandsRefused, WordsRefused}
 use Rattle.cas_tool.specs.Splitting.{IsNamed}
 use Rattle.cas_tool.specs.Words.{AreOperands, BeginWith, HaveOptions, IsBadOperand, IsCommand, IsFirstBad, IsNamedBy, IsOperand, NameNone, Names, Reads, is_key, is_word, operands_of, takes, task_of, verb_of}
@@ -77,7 +77,8 @@ alone word rounds =
     (not-workload (is_word word (codes "--put-cache-key")) PutCacheKey _ rounds (λ e. cc e)
     (not-workload (is_word word (codes "--get-cache-result")) GetCacheResult _ rounds (λ e. cc e)
     (not-workload (is_word word (codes "--batch")) Batch _ rounds (λ e. cc e)
-    (not-workload (is_word word (codes "--validate")) Validate None rounds (λ e. cc e) (λ e. cc e))))))))
+    (not-workload (is_word word (codes "--validate")) Validate _ rounds (λ e. cc e)
+    (not-workload (is_word word (codes "--prune")) Prune None rounds (λ e. cc e) (λ e. cc e)))))))))
 
 -- a workload has at most 10,000 rounds
 named-few : (b : Bool) (word : String Global) (words rest : List (String Global)) (rounds : ℕ) → IsNamedBy b word words (Workload rounds) rest → rounds ≤ 10000
@@ -113,6 +114,8 @@ workload-verb (Workload n) [] rounds is = cc is
 workload-verb (Workload n) (a ∷ more) rounds is = cc is
 workload-verb Validate [] rounds is = cc is
 workload-verb Validate (a ∷ more) rounds is = cc is
+workload-verb Prune [] rounds is = cc is
+workload-verb Prune (a ∷ more) rounds is = cc is
 
 pub rounds-few : (words : List (String Global)) (request : Request) (rounds : ℕ) → Reads words request → request.task ≡ task.Workload rounds → rounds ≤ 10000
 rounds-few words request rounds reads is =

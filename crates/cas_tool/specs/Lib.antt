@@ -11,6 +11,7 @@ pub mod Output
 pub mod Closing
 pub mod Made
 pub mod Validation
+pub mod Pruning
 pub mod Writing
 pub mod Run
 pub mod Complete

@@ -21,7 +21,8 @@ use Rattle.cas_tool.specs.declared.answer.UsageKind.{UsageKind}
 use Rattle.cas_tool.specs.declared.answer.UsageKind.TheVariants.{Words, Operands, BadOperand}
 use Rattle.cas_tool.specs.declared.command.Options.{Options}
 use Rattle.cas_tool.specs.declared.command.Request.{Request}
-use Rattle.cas_tool.specs.declared.command.Task.TheVariants.{Validate}
+use Rattle.cas_tool.specs.declared.command.Task.{Task}
+use Rattle.cas_tool.specs.declared.command.Task.TheVariants.{Once, Batch, Workload, Validate, Prune}
 use Rattle.cas_tool.specs.declared.command.Verb.{Verb}
 use Rattle.cas_tool.specs.declared.front.Front.{Front}
 use Rattle.cas_tool.specs.declared.output.Output.{Output}
@@ -32,8 +33,9 @@ use Rattle.cas_tool.specs.Front.{NotReached, Ran}
 use Rattle.cas_tool.specs.Made.{HasMade}
 use Rattle.cas_tool.specs.Opening.{HasOpened, OpeningStops}
 use Rattle.cas_tool.specs.Output.{IsText}
+use Rattle.cas_tool.specs.Pruning.{PrunePrepares, PruneRefuses}
 use Rattle.cas_tool.specs.Validation.{valid_lines}
-use Rattle.cas_tool.specs.Words.{IsFirstBad, Names, NameNone, Reads, HaveWrongCount, HaveBadOperand, HaveTooMany, dir_of}
+use Rattle.cas_tool.specs.Words.{IsFirstBad, Names, NameNone, Reads, HaveWrongCount, HaveBadOperand, HaveTooMany, dir_of, first_size}
 use Rattle.cas_tool.specs.Work.{Source, source_with, IsWork, TaskStops}
 use Rattle.cas_tool.specs.Writing.{AppendsPart}
 
@@ -107,20 +109,27 @@ pub record ValidatePrepares (dir : List ℕ) (size : ℕ) (old new : FolderView)
 pub record TaskPrepares (request : Request) (dir : List ℕ) (before after : Outside) (front : Front) (output : Output) : Type 0 where
   pub work : Work
   pub is_work : IsWork request.task before.source after.source work
-  pub prepares : RunPrepares dir request.options.size work before.folder after.folder front output
+  pub prepares : RunPrepares dir (first_size request.options) work before.folder after.folder front output
 
-pub record CheckPrepares (request : Request) (dir : List ℕ) (before after : Outside) (front : Front) (output : Output) : Type 0 where
-  pub task_is : request.task ≡ Validate
+-- what a task without a script leaves and gives
+abbrev pub UpkeepPrepares : Task → List ℕ → ℕ → FolderView → FolderView → Output → Type 0
+UpkeepPrepares Validate dir size old new output = ValidatePrepares dir size old new output
+UpkeepPrepares Prune dir size old new output = PrunePrepares dir old new output
+UpkeepPrepares (Once command) dir size old new output = ⊥
+UpkeepPrepares Batch dir size old new output = ⊥
+UpkeepPrepares (Workload rounds) dir size old new output = ⊥
+
+pub record FolderPrepares (request : Request) (dir : List ℕ) (before after : Outside) (front : Front) (output : Output) : Type 0 where
   pub unread : after.source ≡ before.source
   pub no_run : NotReached front
-  pub prepares : ValidatePrepares dir request.options.size before.folder after.folder output
+  pub prepares : UpkeepPrepares request.task dir (first_size request.options) before.folder after.folder output
 
 -- all was done but the writing
 pub record Prepares (words : List (String Global)) (before after : Outside) (front : Front) (output : Output) : Type 0 where
   pub request : Request
   pub dir : String Global
   pub ask : Ask words request dir
-  pub is : TaskPrepares request (string_bytes dir) before after front output ⊎ CheckPrepares request (string_bytes dir) before after front output
+  pub is : TaskPrepares request (string_bytes dir) before after front output ⊎ FolderPrepares request (string_bytes dir) before after front output
 
 -- ---- a run that stops before
 
@@ -173,7 +182,7 @@ RunRefuses dir size work old new front answer =
 pub record TaskRefuses (request : Request) (dir : List ℕ) (before after : Outside) (front : Front) (answer : Answer) : Type 0 where
   pub work : Work
   pub is_work : IsWork request.task before.source after.source work
-  pub refuses : RunRefuses dir request.options.size work before.folder after.folder front answer
+  pub refuses : RunRefuses dir (first_size request.options) work before.folder after.folder front answer
 
 -- a check of the images stopped, or found no memory for its text
 pub record StopsChecking (dir : List ℕ) (size : ℕ) (old new : FolderView) (answer : Answer) : Type 0 where
@@ -184,11 +193,18 @@ pub record StopsChecking (dir : List ℕ) (size : ℕ) (old new : FolderView) (a
 abbrev pub ValidateRefuses : List ℕ → ℕ → FolderView → FolderView → Answer → Type 0
 ValidateRefuses dir size old new answer = OpeningStops dir old new answer ⊎ StopsChecking dir size old new answer
 
-pub record CheckRefuses (request : Request) (dir : List ℕ) (before after : Outside) (front : Front) (answer : Answer) : Type 0 where
-  pub task_is : request.task ≡ Validate
+-- why a task without a script stopped
+abbrev pub UpkeepRefuses : Task → List ℕ → ℕ → FolderView → FolderView → Answer → Type 0
+UpkeepRefuses Validate dir size old new answer = ValidateRefuses dir size old new answer
+UpkeepRefuses Prune dir size old new answer = PruneRefuses dir old new answer
+UpkeepRefuses (Once command) dir size old new answer = ⊥
+UpkeepRefuses Batch dir size old new answer = ⊥
+UpkeepRefuses (Workload rounds) dir size old new answer = ⊥
+
+pub record FolderRefuses (request : Request) (dir : List ℕ) (before after : Outside) (front : Front) (answer : Answer) : Type 0 where
   pub unread : after.source ≡ before.source
   pub no_run : NotReached front
-  pub refuses : ValidateRefuses dir request.options.size before.folder after.folder answer
+  pub refuses : UpkeepRefuses request.task dir (first_size request.options) before.folder after.folder answer
 
 -- the work was not made ready, and the folder was not asked for
 pub record WorkStops (request : Request) (before after : Outside) (front : Front) (answer : Answer) : Type 0 where
@@ -202,7 +218,7 @@ pub record CommandStops (words : List (String Global)) (before after : Outside) 
   pub dir : String Global
   pub ask : Ask words request dir
   pub is : WorkStops request before after front answer
-      ⊎ (TaskRefuses request (string_bytes dir) before after front answer ⊎ CheckRefuses request (string_bytes dir) before after front answer)
+      ⊎ (TaskRefuses request (string_bytes dir) before after front answer ⊎ FolderRefuses request (string_bytes dir) before after front answer)
 
 abbrev pub Refuses : List (String Global) → Outside → Outside → Front → Answer → Type 0
 Refuses words before after front answer = WordsStop words before after front answer ⊎ CommandStops words before after front answer

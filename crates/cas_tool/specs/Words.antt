@@ -1,6 +1,6 @@
 -- The words of a command, those after the program's name: `--cas`, the folder's name, the command's word, and then its operands and
 -- options in any order.
-use Rattle.std.specs.Prelude.{◌≡◌, ℕ, suc, ◌<◌, ◌≤◌, List, [], ◌∷◌, Bool, true, false, cond, ◌==◌, ◌&&◌, not, Some, None, take, slice_get, length, nat_eq, codes, decimal, String}
+use Rattle.std.specs.Prelude.{◌≡◌, ℕ, suc, ◌<◌, ◌≤◌, List, [], ◌∷◌, Bool, true, false, cond, ◌==◌, ◌&&◌, not, Some, None, take, slice_get, length, nat_eq, codes, decimal, unwrap_or, String}
 use Rattle.std.specs.Cmp.Lexicographic.{pointwise}
 use Rattle.std.specs.String.{string_bytes}
 use Rattle.std.specs.declared.alloc.Global.{Global}
@@ -12,11 +12,11 @@ use Rattle.cas_tool.specs.declared.command.Command.TheVariants as command
 use Rattle.cas_tool.specs.declared.command.Options.{Options}
 use Rattle.cas_tool.specs.declared.command.Request.{Request}
 use Rattle.cas_tool.specs.declared.command.Setting.{Setting}
-use Rattle.cas_tool.specs.declared.command.Setting.TheVariants.{Workers, Size}
+use Rattle.cas_tool.specs.declared.command.Setting.TheVariants.{Workers, Size, Limit}
 use Rattle.cas_tool.specs.declared.command.Task.{Task}
 use Rattle.cas_tool.specs.declared.command.Task.TheVariants as task
 use Rattle.cas_tool.specs.declared.command.Verb.{Verb}
-use Rattle.cas_tool.specs.declared.command.Verb.TheVariants.{MakeBlob, MakeNode, CatNodeData, LsNodeRefs, PutCacheKey, GetCacheResult, Batch, Workload, Validate}
+use Rattle.cas_tool.specs.declared.command.Verb.TheVariants.{MakeBlob, MakeNode, CatNodeData, LsNodeRefs, PutCacheKey, GetCacheResult, Batch, Workload, Validate, Prune}
 
 -- ---- the words
 
@@ -47,7 +47,8 @@ verb_of word =
     (cond (is_word word (codes "--get-cache-result")) (Some GetCacheResult)
     (cond (is_word word (codes "--batch")) (Some Batch)
     (cond (is_word word (codes "--validate")) (Some Validate)
-    None)))))))
+    (cond (is_word word (codes "--prune")) (Some Prune)
+    None))))))))
 
 -- the words begin with the value of a workload, 1 to 10,000 rounds, and the rest follows
 pub record IsWorkload (words : List (String Global)) (verb : Verb) (rest : List (String Global)) : Type 0 where
@@ -85,7 +86,8 @@ abbrev pub setting_of : String Global → Option Setting
 setting_of word =
     cond (is_word word (codes "--workers")) (Some Workers)
     (cond (is_word word (codes "--size")) (Some Size)
-    None)
+    (cond (is_word word (codes "--limit")) (Some Limit)
+    None))
 
 -- whether each option has its value, and no other word begins with `-`
 abbrev pub split_at : Option Setting → String Global → Bool → Bool → Bool
@@ -112,8 +114,13 @@ abbrev pub values_at : Setting → Option Setting → String Global → List (St
 values_at setting None value after_value after_word = after_word
 values_at Workers (Some Workers) value after_value after_word = value ∷ after_value
 values_at Workers (Some Size) value after_value after_word = after_value
+values_at Workers (Some Limit) value after_value after_word = after_value
 values_at Size (Some Workers) value after_value after_word = after_value
 values_at Size (Some Size) value after_value after_word = value ∷ after_value
+values_at Size (Some Limit) value after_value after_word = after_value
+values_at Limit (Some Workers) value after_value after_word = after_value
+values_at Limit (Some Size) value after_value after_word = after_value
+values_at Limit (Some Limit) value after_value after_word = value ∷ after_value
 
 abbrev pub values_of : Setting → List (String Global) → List (String Global)
 values_of setting [] = []
@@ -126,11 +133,23 @@ IsSet least most default [] number = number ≡ default
 IsSet least most default (value ∷ []) number = IsNumberWithin least most (string_bytes value) number
 IsSet least most default (value ∷ other ∷ values) number = ⊥
 
+-- what is set by these values: the number that the only value is, or nothing where there is none
+abbrev pub IsGiven : ℕ → ℕ → List (String Global) → Option ℕ → Type 0
+IsGiven least most [] given = given ≡ None
+IsGiven least most (value ∷ []) None = ⊥
+IsGiven least most (value ∷ []) (Some number) = IsNumberWithin least most (string_bytes value) number
+IsGiven least most (value ∷ other ∷ values) given = ⊥
+
 -- the words after the command are operands and these options
 pub record HaveOptions (words : List (String Global)) (options : Options) : Type 0 where
   pub split : is_split words ≡ true
   pub workers : IsSet 1 64 1 (values_of Workers words) options.workers
-  pub size : IsSet 4096 67108864 4194304 (values_of Size words) options.size
+  pub size : IsGiven 4096 67108864 (values_of Size words) options.size
+  pub limit : IsGiven 0 1099511627776 (values_of Limit words) options.limit
+
+-- the size of a first generation, in words
+abbrev pub first_size : Options → ℕ
+first_size options = unwrap_or options.size 4194304
 
 -- these words name this command, with these operands and options
 pub record Names (words : List (String Global)) (verb : Verb) (operands : List (String Global)) (options : Options) : Type 0 where
@@ -152,6 +171,7 @@ takes GetCacheResult n = n == 1
 takes Batch n = n == 0
 takes (Workload rounds) n = n == 0
 takes Validate n = n == 0
+takes Prune n = n == 0
 
 -- the operand at this index, counted from 0, is a key. Each other is an id
 abbrev pub is_key : Verb → ℕ → Bool
@@ -164,6 +184,7 @@ is_key LsNodeRefs k = false
 is_key Batch k = false
 is_key (Workload rounds) k = false
 is_key Validate k = false
+is_key Prune k = false
 
 -- a key or an id of this digest
 abbrev pub IsOperand : Bool → Digest → List ℕ → Type 0
@@ -216,6 +237,8 @@ task_of (Workload rounds) [] = Some (task.Workload rounds)
 task_of (Workload rounds) (a ∷ more) = None
 task_of Validate [] = Some task.Validate
 task_of Validate (a ∷ more) = None
+task_of Prune [] = Some task.Prune
+task_of Prune (a ∷ more) = None
 
 -- the words name a command with these options, and their operands read, as these digests
 pub record HaveOperands (words : List (String Global)) (verb : Verb) (options : Options) (digests : List Digest) : Type 0 where

@@ -15,7 +15,7 @@ use Rattle.cas_tool.specs.declared.answer.Large.TheVariants.{Data, Script}
 use Rattle.cas_tool.specs.declared.command.Command.{Command}
 use Rattle.cas_tool.specs.declared.command.Command.TheVariants.{Make, CatNodeData, LsNodeRefs, PutCacheKey, GetCacheResult}
 use Rattle.cas_tool.specs.declared.command.Task.{Task}
-use Rattle.cas_tool.specs.declared.command.Task.TheVariants.{Once, Batch, Workload, Validate}
+use Rattle.cas_tool.specs.declared.command.Task.TheVariants.{Once, Batch, Workload, Validate, Prune}
 use Rattle.cas_tool.specs.declared.input.Stop.{Stop}
 use Rattle.cas_tool.specs.declared.input.Stop.TheVariants.{Fault, Large, Memory}
 use Rattle.cas_tool.specs.declared.work.Report.TheVariants.{Reply, Lines, Summary}
@@ -72,12 +72,13 @@ pub record IsWorkload (rounds : ℕ) (before after : Source) (work : Work) : Typ
   pub script_is : work.script ≡ workload_script rounds
   pub report_is : work.report ≡ Summary rounds
 
--- the work that a task asks for. A check of the images is none
+-- the work that a task asks for. A check of the images is none, nor is a removal of generations
 abbrev pub IsWork : Task → Source → Source → Work → Type 0
 IsWork (Once command) before after work = IsCallWork command before after work
 IsWork Batch before after work = IsBatchWork before after work
 IsWork (Workload rounds) before after work = IsWorkload rounds before after work
 IsWork Validate before after work = ⊥
+IsWork Prune before after work = ⊥
 
 -- ---- why there is none
 
@@ -119,6 +120,7 @@ TaskStops (Once command) before after answer = CommandStops command before after
 TaskStops Batch before after answer = ScriptStops before after answer
 TaskStops (Workload rounds) before after answer = (answer ≡ NoMemory) × (after ≡ before)
 TaskStops Validate before after answer = ⊥
+TaskStops Prune before after answer = ⊥
 
 -- ---- on the way
 
@@ -148,3 +150,4 @@ IsTaskWithin (Once command) = IsCommandWithin command
 IsTaskWithin Batch = Unit {0}
 IsTaskWithin (Workload rounds) = rounds ≤ 10000
 IsTaskWithin Validate = ⊥
+IsTaskWithin Prune = ⊥

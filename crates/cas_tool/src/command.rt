@@ -1,8 +1,12 @@
 // Commands: what the words ask for.
 ghost use Rattle.std.specs.Prelude.{◌≡◌, Some};
 ghost use Rattle.cas_tool.specs.Output.{call_of, shown_by};
+ghost use Rattle.cas_tool.specs.Words.{first_size};
 
 use cas_model::{Call, Data, Digest, Object, Refs};
+
+/// The size of a first generation where none is given, in words.
+pub const DEFAULT_SIZE: u64 = 4_194_304;
 
 /// The commands, by the word that names each.
 #[derive(Clone, Copy, Debug, PartialEq, Eq)]
@@ -17,6 +21,7 @@ pub enum Verb {
     /// With the word after it, a number of rounds from 1 to 10,000.
     Workload(u32),
     Validate,
+    Prune,
 }
 
 /// What the words ask for.
@@ -37,6 +42,8 @@ pub enum Task {
     Workload(u32),
     /// A check of the folder's images.
     Validate,
+    /// The removal of the generations that no command reads.
+    Prune,
 }
 
 /// What an option sets. The word after the option is its value.
@@ -44,6 +51,7 @@ pub enum Task {
 pub enum Setting {
     Workers,
     Size,
+    Limit,
 }
 
 /// What the options say. One that does not go with the command has no effect.
@@ -51,8 +59,20 @@ pub enum Setting {
 pub struct Options {
     /// How many workers a batch or workload has, from 1 to 64; 1 by default.
     pub workers: u32,
-    /// The size of a region that is made, from 4,096 to 67,108,864 words; 4,194,304 by default.
-    pub size: u64,
+    /// The size of a region that is made, from 4,096 to 67,108,864 words, where it is given.
+    pub size: Option<u64>,
+    /// The limit in bytes, up to 1,099,511,627,776, where one is given: a primary whose image has more than half of so many
+    /// is put under a new, empty one.
+    pub limit: Option<u64>,
+}
+
+impl Options {
+    /// The size of a first generation, in words.
+    pub fn first_size(self) -> u64
+        ensures { result ≡ first_size self }
+    {
+        self.size.unwrap_or(DEFAULT_SIZE)
+    }
 }
 
 /// A command that makes one call, with its operands. The words are LLVM's tool's, the operands' texts this project's own.

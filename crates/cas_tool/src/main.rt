@@ -12,6 +12,7 @@ mod input;
 mod limit_tests;
 mod opening;
 mod output;
+mod pruning;
 mod run;
 mod running;
 #[cfg(test)]

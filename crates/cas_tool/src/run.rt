@@ -14,6 +14,7 @@ use crate::command::{Request, Task};
 use crate::front::Front;
 use crate::opening::open;
 use crate::output::{Output, write_all};
+use crate::pruning::prune_text;
 use crate::running::{Made, run_work};
 use crate::validate::valid_text;
 use crate::words::read_words;
@@ -84,12 +85,14 @@ fn prepare<F: Folder, S: Source, G: Gate>(
     };
     let dir = words[1].as_str();
     let Request { task, options } = request;
-    if let Task::Validate = task {
-        return (Front::none(), validate(alloc, folder, dir, options.size));
-    }
-    match work_of(alloc, task, source) {
-        Ok(work) => run_in_folder(alloc, folder, dir, options.size, work, gate),
-        Err(answer) => (Front::none(), Err(answer)),
+    let size = options.first_size();
+    match task {
+        Task::Validate => (Front::none(), validate(alloc, folder, dir, size)),
+        Task::Prune => (Front::none(), prune_text(alloc, folder, dir)),
+        task => match work_of(alloc, task, source) {
+            Ok(work) => run_in_folder(alloc, folder, dir, size, work, gate),
+            Err(answer) => (Front::none(), Err(answer)),
+        },
     }
 }
 

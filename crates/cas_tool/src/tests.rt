@@ -97,7 +97,7 @@ fn faults_have_their_answers(rt: HostRuntime) -> Result<(), Fail> {
 
 #[test]
 fn other_words_are_refused(rt: HostRuntime) -> Result<(), Fail> {
-    let cases: [(&[&str], UsageKind); 29] = [
+    let cases: [(&[&str], UsageKind); 36] = [
         // An option without its value, and values that are no numbers within bounds.
         (&["--cas", "c", "--batch", "--workers"], UsageKind::Words),
         (
@@ -124,13 +124,36 @@ fn other_words_are_refused(rt: HostRuntime) -> Result<(), Fail> {
             &["--cas", "c", "--batch", "--size", "67108865"],
             UsageKind::Words,
         ),
+        (
+            &["--cas", "c", "--batch", "--limit", "1099511627777"],
+            UsageKind::Words,
+        ),
+        (
+            &["--cas", "c", "--batch", "--limit", "01"],
+            UsageKind::Words,
+        ),
+        (
+            &["--cas", "c", "--batch", "--limit", "-1"],
+            UsageKind::Words,
+        ),
+        (
+            &["--cas", "c", "--batch", "--limit", "18446744073709551616"],
+            UsageKind::Words,
+        ),
         // An option that is given twice, two commands, and an option that is none.
         (
             &["--cas", "c", "--batch", "--workers", "4", "--workers", "4"],
             UsageKind::Words,
         ),
+        (
+            &["--cas", "c", "--batch", "--limit", "0", "--limit", "0"],
+            UsageKind::Words,
+        ),
         (&["--cas", "c", "--make-blob", "--batch"], UsageKind::Words),
-        (&["--cas", "c", "--batch", "--limit", "0"], UsageKind::Words),
+        (
+            &["--cas", "c", "--batch", "--limits", "0"],
+            UsageKind::Words,
+        ),
         (&["--cas", "c", "--workload"], UsageKind::Words),
         (&["--cas", "c", "--workload", "0"], UsageKind::Words),
         (&["--cas", "c", "--workload", "10001"], UsageKind::Words),
@@ -142,6 +165,8 @@ fn other_words_are_refused(rt: HostRuntime) -> Result<(), Fail> {
             &["--cas", "c", "--validate", "--size", "4096", ZERO],
             UsageKind::Operands(1),
         ),
+        (&["--cas", "c", "--prune", ZERO], UsageKind::Operands(1)),
+        (&["--cas", "c", "--prune", "--all"], UsageKind::Words),
         (&["--cas", "c", "--batch", "-"], UsageKind::Words),
         (&["--cas", "c", "--batch", ZERO], UsageKind::Operands(1)),
         (&[], UsageKind::Words),
@@ -190,13 +215,15 @@ fn read(rt: &HostRuntime, words: &[&str]) -> Result<Option<Request>, Fail> {
 fn options_stand_anywhere_after_the_command(rt: HostRuntime) -> Result<(), Fail> {
     let given = Options {
         workers: 64,
-        size: 4_096,
+        size: Some(4_096),
+        limit: None,
     };
-    let plain = Options {
+    let limited = |limit| Options {
         workers: 1,
-        size: 4_194_304,
+        size: None,
+        limit,
     };
-    let cases: [(&[&str], Options); 4] = [
+    let cases: [(&[&str], Options); 6] = [
         (
             &[
                 "--cas",
@@ -224,8 +251,16 @@ fn options_stand_anywhere_after_the_command(rt: HostRuntime) -> Result<(), Fail>
             ],
             given,
         ),
-        (&["--cas", "c", "--make-blob"], plain),
-        (&["--cas", "c", "--validate"], plain),
+        (&["--cas", "c", "--make-blob"], limited(None)),
+        (&["--cas", "c", "--validate"], limited(None)),
+        (
+            &["--cas", "c", "--make-node", ZERO, "--limit", "0"],
+            limited(Some(0)),
+        ),
+        (
+            &["--cas", "c", "--batch", "--limit", "1099511627776"],
+            limited(Some(1_099_511_627_776)),
+        ),
     ];
     for (words, options) in cases {
         match read(&rt, words)? {

@@ -1,11 +1,11 @@
 // The words of a command, read by hand.
-ghost use Rattle.std.specs.Prelude.{◌≡◌, ◌+◌, ◌<◌, ◌^◌, ℕ, List, String, length, IfOk, IfErr, MatchOption, MatchResult, IfSome, IfNone, Some, None, [], ◌∷◌, true};
+ghost use Rattle.std.specs.Prelude.{◌≡◌, ◌+◌, ◌<◌, ◌≤◌, ℕ, List, String, length, IfOk, IfErr, MatchOption, MatchResult, IfSome, IfNone, Some, None, [], ◌∷◌, true};
 ghost use Rattle.std.specs.String.{string_bytes};
 ghost use Rattle.std.specs.declared.alloc.Global.{Global};
 ghost use Rattle.cas_tool.specs.declared.command.Options.{Options};
 ghost use Rattle.cas_tool.specs.declared.command.Verb.{Verb};
 ghost use Rattle.cas_tool.specs.Words.{verb_of, begins_dash, setting_of, operands_of, takes, is_key, IsNumberWithin, BeginWith, IsCommand, IsWorkload, HaveOptions, NameNone, IsOperand, IsBadOperand, AreOperands, task_of, Reads};
-ghost use Rattle.cas_tool.specs.Splitting.{IsNamed, leads};
+ghost use Rattle.cas_tool.specs.Splitting.{IsNamed, IsWith, given_for, given_options, IsValueOf, leads, no_settings};
 ghost use Rattle.cas_tool.specs.Run.{OperandsRefused, WordsRefused};
 
 use crate::answer::{Answer, Large, UsageKind};
@@ -15,6 +15,9 @@ use std::alloc::{AllocError, Global};
 
 /// The most references that an object has.
 const MOST_REFS: usize = 65_535;
+
+/// The most bytes that can be a limit.
+const MOST_LIMIT: u64 = 1_099_511_627_776;
 
 /// What the words, those after the program's name, ask for.
 pub fn read_words(alloc: Global, words: &[String]) -> Result<Request, Answer>
@@ -108,8 +111,56 @@ impl Setting {
             Some(Setting::Workers)
         } else if text == b"--size".as_slice() {
             Some(Setting::Size)
+        } else if text == b"--limit".as_slice() {
+            Some(Setting::Limit)
         } else {
             None
+        }
+    }
+}
+
+// The numbers that the options so far set.
+#[derive(Clone, Copy)]
+struct Given {
+    workers: Option<u64>,
+    size: Option<u64>,
+    limit: Option<u64>,
+}
+
+impl Given {
+    // No option so far.
+    fn none() -> Given
+        ensures { result ≡ no_settings }
+    {
+        Given {
+            workers: None,
+            size: None,
+            limit: None,
+        }
+    }
+
+    // The same with one more option and its value, where it did not stand before.
+    fn with(self, setting: Setting, value: &String) -> Option<Given>
+        ensures { MatchOption result (given_for setting self ≡ None → (number : ℕ) → ¬ IsValueOf setting (string_bytes value.now) number) (IsWith setting (string_bytes value.now) self) }
+    {
+        let mut given = self;
+        match setting {
+            Setting::Workers => given.workers = Some(once(self.workers, value, 1, 64)?),
+            Setting::Size => given.size = Some(once(self.size, value, 4_096, 67_108_864)?),
+            Setting::Limit => given.limit = Some(once(self.limit, value, 0, MOST_LIMIT)?),
+        }
+        Some(given)
+    }
+
+    // The options that set these numbers. There is one worker where no option says how many.
+    fn options(self) -> Options
+        requires { IfSome self.workers (λ workers. workers ≤ 64) }
+        ensures { result ≡ given_options self }
+    {
+        Options {
+            workers: self.workers.unwrap_or(1) as u32,
+            size: self.size,
+            limit: self.limit,
         }
     }
 }
@@ -121,8 +172,7 @@ fn split(words: &[String]) -> Option<(usize, Options)>
     ensures count { IfSome result (λ pair. pair.0 ≡ length (operands_of words.now)) }
 {
     let mut count = 0;
-    let mut workers = None;
-    let mut size = None;
+    let mut given = Given::none();
     let mut rest = words;
     while let [word, more @ ..] = rest {
         match Setting::of_word(word) {
@@ -130,10 +180,7 @@ fn split(words: &[String]) -> Option<(usize, Options)>
                 let [value, after @ ..] = more else {
                     return None;
                 };
-                match setting {
-                    Setting::Workers => workers = Some(once(workers, value, 1, 64)?),
-                    Setting::Size => size = Some(once(size, value, 4_096, 67_108_864)?),
-                }
+                given = given.with(setting, value)?;
                 rest = after;
             }
             None => {
@@ -145,16 +192,11 @@ fn split(words: &[String]) -> Option<(usize, Options)>
             }
         }
     }
-    let options = Options {
-        workers: workers.unwrap_or(1) as u32,
-        size: size.unwrap_or(4_194_304),
-    };
-    Some((count, options))
+    Some((count, given.options()))
 }
 
 // The number that the value of an option is, where the option was not given before.
 fn once(before: Option<u64>, value: &String, least: u64, most: u64) -> Option<u64>
-    requires { most < 2 ^ 32 }
     ensures { MatchOption result (before ≡ None → (number : ℕ) → ¬ IsNumberWithin least most (string_bytes value.now) number)
         (λ number. (before ≡ None) × IsNumberWithin least most (string_bytes value.now) number) }
 {
@@ -166,7 +208,6 @@ fn once(before: Option<u64>, value: &String, least: u64, most: u64) -> Option<u6
 
 // The number that a word is, in decimal digits without a sign or a leading zero, if it lies between these.
 fn number_within(word: &String, least: u64, most: u64) -> Option<u64>
-    requires { most < 2 ^ 32 }
     ensures { MatchOption result ((number : ℕ) → ¬ IsNumberWithin least most (string_bytes word.now) number) (IsNumberWithin least most (string_bytes word.now)) }
 {
     if !leads(word.as_bytes()) {
@@ -221,6 +262,8 @@ impl Verb {
             Some(Verb::Batch)
         } else if text == b"--validate".as_slice() {
             Some(Verb::Validate)
+        } else if text == b"--prune".as_slice() {
+            Some(Verb::Prune)
         } else {
             None
         }
@@ -231,7 +274,8 @@ impl Verb {
         ensures { result ≡ takes self count }
     {
         match self {
-            Verb::MakeBlob | Verb::Batch | Verb::Workload(_) | Verb::Validate => count == 0,
+            Verb::MakeBlob | Verb::Batch | Verb::Workload(_) => count == 0,
+            Verb::Validate | Verb::Prune => count == 0,
             Verb::MakeNode => true,
             Verb::CatNodeData | Verb::LsNodeRefs | Verb::GetCacheResult => count == 1,
             Verb::PutCacheKey => count == 2,
@@ -265,6 +309,7 @@ impl Verb {
             (Verb::Batch, _) => return Task::Batch,
             (Verb::Workload(rounds), _) => return Task::Workload(rounds),
             (Verb::Validate, _) => return Task::Validate,
+            (Verb::Prune, _) => return Task::Prune,
             _ => unreachable!(),
         };
         Task::Once(command)

@@ -52,7 +52,7 @@ pub fn work_of<S: Source>(alloc: Global, task: Task, source: &mut S) -> Result<W
             script: workload(alloc, rounds)?,
             report: Report::Summary(rounds),
         }),
-        Task::Validate => unreachable!(),
+        Task::Validate | Task::Prune => unreachable!(),
     }
 }
 

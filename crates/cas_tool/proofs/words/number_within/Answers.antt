@@ -8,17 +8,17 @@ use Rattle.cas_tool.proofs.words.number_within.Goals as goal
 
 pub returns-then-not-leads : goal.returns-then-not-leads
 returns-then-not-leads c = λ number is.
-    false≢true (sym c.if-not-leads.true ∙ c.leads.ensures ∙ ap leads c.as_bytes.ensures.value ∙ number-leads c.args.least c.args.most number (string_bytes c.args.word.now) c.requires is)
+    false≢true (sym c.if-not-leads.true ∙ c.leads.ensures ∙ ap leads c.as_bytes.ensures.value ∙ number-leads c.args.least c.args.most number (string_bytes c.args.word.now) c.ranges.most.fits is)
 
 pub returns-in_default : goal.returns-in_default
 returns-in_default c = λ number is.
-    let same : c.parse.result ≡ Ok number = number-parses c.args.least c.args.most number c.as_str.result.now c.parse.result c.requires
+    let same : c.parse.result ≡ Ok number = number-parses c.args.least c.args.most number c.as_str.result.now c.parse.result c.ranges.most.fits
     (subst (λ text. IsNumberWithin c.args.least c.args.most text number) (sym c.as_str.ensures.value) is) c.parse.ensures.value.0 in
     cc (same, c.in_default.is)
 
 pub returns-then-number-least : goal.returns-then-number-least
 returns-then-number-least c = λ number is.
-    let same : c.parse.result ≡ Ok number = number-parses c.args.least c.args.most number c.as_str.result.now c.parse.result c.requires
+    let same : c.parse.result ≡ Ok number = number-parses c.args.least c.args.most number c.as_str.result.now c.parse.result c.ranges.most.fits
     (subst (λ text. IsNumberWithin c.args.least c.args.most text number) (sym c.as_str.ensures.value) is) c.parse.ensures.value.0 in
     let equal : c.in-Ok.number ≡ number = cc (same, c.in-Ok.is) in
     let low = is.low in

@@ -1,19 +1,21 @@
 -- one more piece: an operand, or an option and its value
-use Rattle.std.proofs.Common.{Some, ap, sym, ◌∙◌, refl, arith}
-use Rattle.cas_tool.proofs.SplitLemmas.{operand-step, operands-few, size-step, workers-step}
+use Rattle.std.proofs.Common.{sym, refl, arith}
+use Rattle.cas_tool.proofs.SplitLemmas.{bad-option, operand-step, operands-few, option-step, so-far-first, where-none}
 use Rattle.cas_tool.proofs.words.split.Goals as goal
 
-pub loop-rest-preserved-in_ok-once-in-Workers : goal.loop-rest-preserved-in_ok-once-in-Workers
-loop-rest-preserved-in_ok-once-in-Workers c =
-    workers-step c.args.words.now c.loop-rest.rest.now _ c.word-item.result c.value-item.result c.loop-rest.count c.loop-rest.workers c.loop-rest.size c.in_ok-once-in-Workers.field-0
-    c.in-len1-up.len_at_least c.word-item.is refl c.in-len1-up-more.len_at_least c.value-item.is (sym c.in-Some.ensures ∙ ap Some c.in-Workers.is)
-    c.in_ok-once-in-Workers.ensures.0 c.in_ok-once-in-Workers.ensures.1 c.loop-rest.invariant
+pub loop-rest-init : goal.loop-rest-init
+loop-rest-init c = so-far-first c.args.words.now c.none-given.result c.none-given.ensures
 
-pub loop-rest-preserved-in_ok-once-in-Size : goal.loop-rest-preserved-in_ok-once-in-Size
-loop-rest-preserved-in_ok-once-in-Size c =
-    size-step c.args.words.now c.loop-rest.rest.now _ c.word-item.result c.value-item.result c.loop-rest.count c.loop-rest.workers c.loop-rest.size c.in_ok-once-in-Size.field-0
-    c.in-len1-up.len_at_least c.word-item.is refl c.in-len1-up-more.len_at_least c.value-item.is (sym c.in-Some.ensures ∙ ap Some c.in-Size.is)
-    c.in_ok-once-in-Size.ensures.0 c.in_ok-once-in-Size.ensures.1 c.loop-rest.invariant
+pub loop-rest-preserved-in-Some : goal.loop-rest-preserved-in-Some
+loop-rest-preserved-in-Some c =
+    option-step c.args.words.now c.loop-rest.rest.now _ c.word-item.result c.value-item.result c.in-Some.setting c.loop-rest.count c.loop-rest.given c.in_ok-given-in-Some.given
+    c.in-len1-up.len_at_least c.word-item.is refl c.in-len1-up-more.len_at_least c.value-item.is (sym c.in-Some.ensures) c.in_ok-given-in-Some.ensures c.loop-rest.invariant
+
+pub returns-in_err-given-in-Some-clause-none : goal.returns-in_err-given-in-Some-clause-none
+returns-in_err-given-in-Some-clause-none c =
+    where-none c.from_residual.result
+    (bad-option c.args.words.now c.loop-rest.rest.now _ c.word-item.result c.value-item.result c.in-Some.setting c.loop-rest.count c.loop-rest.given
+    c.in-len1-up.len_at_least c.word-item.is refl c.in-len1-up-more.len_at_least c.value-item.is (sym c.in-Some.ensures) c.in_err-given-in-Some.ensures c.loop-rest.invariant)
 
 pub overflow_add-count : goal.overflow_add-count
 overflow_add-count c =
@@ -23,5 +25,5 @@ overflow_add-count c =
 
 pub loop-rest-preserved : goal.loop-rest-preserved
 loop-rest-preserved c =
-    operand-step c.args.words.now c.loop-rest.rest.now c.word-item.result c.loop-rest.count c.loop-rest.workers c.loop-rest.size c.in-len1-up.len_at_least c.word-item.is
+    operand-step c.args.words.now c.loop-rest.rest.now c.word-item.result c.loop-rest.count c.loop-rest.given c.in-len1-up.len_at_least c.word-item.is
     (sym c.in-None.ensures) (sym c.if-begins_dash.ensures) c.loop-rest.invariant

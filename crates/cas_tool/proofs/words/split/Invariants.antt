@@ -4,7 +4,7 @@ use Rattle.cas_tool.proofs.SplitLemmas.{SoFar}
 use Rattle.cas_tool.proofs.words.split.Given as goal
 
 abbrev pub invariant-loop-rest : goal.invariant-loop-rest
-invariant-loop-rest l = SoFar l.words l.rest l.count l.workers l.size
+invariant-loop-rest l = SoFar l.words l.rest l.count l.given
 
 abbrev pub decreases-loop-rest : goal.decreases-loop-rest
 decreases-loop-rest l = length l.rest
