@@ -7,7 +7,8 @@ use Rattle.cas_outside.specs.declared.folder.FolderError.TheVariants as folder
 use Rattle.generations.specs.declared.opening.OpenError.{OpenError}
 use Rattle.generations.specs.declared.opening.OpenError.TheVariants as error
 use Rattle.generations.specs.declared.opening.Opened.{Opened}
-use Rattle.generations.specs.Opened.{IsOpened, IsRefused, IsToldHighest, OpenFails, Opens, OpensTo, primary_number}
+use Rattle.generations.specs.Chain.{IsToldChain}
+use Rattle.generations.specs.Opened.{IsOpened, IsRefused, OpenFails, Opens, OpensTo, primary_number, upstream_number}
 use Rattle.cas_tool.specs.declared.answer.Answer.TheVariants.{FolderFault, NoMemory}
 use Rattle.cas_tool.specs.Opening.{HasOpened, IsOnlyOpened, OpenCause, OpeningStops, open_answer}
 
@@ -61,7 +62,7 @@ module _ (dir : List ℕ) (old mid new : FolderView) (enters : Entered dir old m
     entered = ap (λ (v : FolderView). v.entered) opens.is ∙ ap (λ (v : FolderView). v.entered) enters.to;
     is = record {
       locked = h.locked;
-      highest = subst (λ (fs : Option Files). IsToldHighest fs (primary_number opened)) files-stay h.highest;
+      chain = subst (λ (fs : Option Files). IsToldChain fs (primary_number opened) (upstream_number opened)) files-stay h.chain;
       to = subst (λ (fs : Option Files). OpensTo opened.has_file fs size opened) files-stay h.to;
     };
   }

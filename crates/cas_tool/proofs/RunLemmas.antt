@@ -1,6 +1,6 @@
 -- Which answers come of what, and what words that were read ask for.
-use Rattle.std.proofs.Common.{IfOk, IfErr, Ok, get_or, ◌≡◌, ℕ, ◌<◌, ◌≤◌, inl, inr, List, [], ◌∷◌, length, Bool, true, false, cond, Some, None, refl, ap, sym, subst, Err, arith}
-use Rattle.std.specs.Prelude.{String, codes}
+use Rattle.std.proofs.Common.{IfOk, IfErr, Ok, get_or, ◌≡◌, ℕ, ◌<◌, ◌≤◌, inl, inr, List, [], ◌∷◌, length, Bool, true, false, cond, Some, None, refl, ap, sym, subst, ◌∙◌, Err, arith}
+use Rattle.std.specs.Prelude.{String, codes, unwrap_or}
 use Rattle.std.specs.String.{string_bytes}
 use Rattle.std.specs.declared.alloc.Global.{Global}
 use Rattle.std.specs.declared.option.Option.{Option}
@@ -24,6 +24,7 @@ use Rattle.sessions.specs.declared.script.Line.TheVariants.{Store, Load, Put, Ge
 use Rattle.sessions.specs.declared.script.Script.{Script}
 use Rattle.cas_tool.specs.declared.answer.Answer.{Answer}
 use Rattle.cas_tool.specs.declared.answer.Answer.TheVariants.{Done, Missing, Usage, ReadFault, WriteFault, FolderFault, Damaged, Full, Poisoned, Dangling, BadScript, Held, TooLarge, NoMemory}
+use Rattle.cas_tool.specs.declared.closing.Images.{Images}
 use Rattle.cas_tool.specs.declared.command.Request.{Request}
 use Rattle.cas_tool.specs.declared.command.Task.{Task}
 use Rattle.cas_tool.specs.declared.command.Task.TheVariants.{Once, Batch, Workload, Validate}
@@ -40,8 +41,9 @@ use Rattle.cas_tool.specs.Front.{NotReached, closed_of}
 use Rattle.cas_tool.specs.Made.{IsOneCall, IsOneCallFor}
 use Rattle.cas_tool.specs.Opening.{OpenCause, OpeningStops}
 use Rattle.cas_tool.specs.Output.{Reports, call_of, refusal_of}
-use Rattle.cas_tool.specs.Run.{Ask, Because, Ends, Outside, Prepares, Refuses, RunPrepares, RunRefuses, SavingStops, ValidatePrepares, ValidateRefuses, WordsRefused, World, save_answer}
-use Rattle.cas_tool.specs.Words.{BeginWith, IsNamedBy, IsSet, dir_of, is_word, task_of, verb_of}
+use Rattle.cas_tool.specs.Rotation.{IsSizeFor}
+use Rattle.cas_tool.specs.Run.{Ask, Because, Ends, Outside, Prepares, Refuses, RunPrepares, RunRefuses, IsPut, PutStops, SavingStops, ValidatePrepares, ValidateRefuses, WordsRefused, World, save_answer}
+use Rattle.cas_tool.specs.Words.{BeginWith, IsGiven, IsNamedBy, dir_of, is_word, task_of, verb_of}
 use Rattle.cas_tool.specs.Work.{IsTaskWithin, IsWork, Source, TaskStops}
 
 -- ---- answers of a reply
@@ -161,6 +163,9 @@ never-save : (error : SaveError) (given : Answer) → IsEnd given → given ≡ 
 never-save save.FolderFault given end h = never (λ (a : Answer). a ≡ FolderFault) (λ x. cc x) (λ x. cc x) given end h
 never-save save.Memory given end h = never-memory given end h
 
+never-saving : (number : ℕ) (images : Images) (old new : FolderView) (given : Answer) → IsEnd given → SavingStops number images old new given → ⊥
+never-saving number images old new given end h = elim h [ inl saving ↦ never-save saving.error given end saving.is | inr rotating ↦ never-save rotating.stops.error given end rotating.stops.is ]
+
 never-refused : (words : List (String Global)) (before after : Outside) (front : Front) (given : Answer) → IsEnd given → Refuses words before after front given → ⊥
 never-refused words before after front given end h = elim h [
   | inl stop ↦ never-words words given end stop.why
@@ -171,7 +176,7 @@ never-refused words before after front given end h = elim h [
         | inl opening ↦ never-open _ before.folder after.folder given end opening.stops
         | inr later ↦ elim later [
           | inl running ↦ never-memory given end running.memory
-          | inr saving ↦ never-save saving.stops.error given end saving.stops.is
+          | inr saving ↦ never-saving _ _ _ _ given end saving.stops
         ]
       ]
       | inr check ↦ elim check.refuses [
@@ -219,6 +224,9 @@ of-save : (error : SaveError) (given : Answer) → IsOfReply given → given ≡
 of-save save.FolderFault given of h = never-of (λ (a : Answer). a ≡ FolderFault) (λ d x. cc x) (λ f x. cc x) (λ d e x. cc x) (λ i d x. cc x) given of h
 of-save save.Memory given of h = of-memory given of h
 
+of-saving : (number : ℕ) (images : Images) (old new : FolderView) (given : Answer) → IsOfReply given → SavingStops number images old new given → ⊥
+of-saving number images old new given of h = elim h [ inl saving ↦ of-save saving.error given of saving.is | inr rotating ↦ of-save rotating.stops.error given of rotating.stops.is ]
+
 pub of-refused : (words : List (String Global)) (before after : Outside) (front : Front) (given : Answer) → IsOfReply given → Refuses words before after front given → ⊥
 of-refused words before after front given of h = elim h [
   | inl stop ↦ of-words words given of stop.why
@@ -229,7 +237,7 @@ of-refused words before after front given of h = elim h [
         | inl opening ↦ of-open before.folder after.folder given of opening.stops.cause
         | inr later ↦ elim later [
           | inl running ↦ of-memory given of running.memory
-          | inr saving ↦ of-save saving.stops.error given of saving.stops.is
+          | inr saving ↦ of-saving _ _ _ _ given of saving.stops
         ]
       ]
       | inr check ↦ elim check.refuses [
@@ -354,22 +362,33 @@ one-call (Workload rounds) before after work h = subst (λ (r : Report). IsOneCa
 one-call Validate before after work h = absurd h
 
 -- an image that was due was not saved
-pub saving-stops :
-    (number : ℕ) (due : Option (Vec ℕ Global)) (image : Vec ℕ Global) (bytes : List ℕ) (old new : FolderView) (result : Result (Unit {0}) SaveError) (error : SaveError) → due ≡ Some image
-    → bytes ≡ image.items → Saves (generation_name number) bytes old new result → result ≡ Err error → SavingStops number due old new (save_answer error)
-saving-stops number due image bytes old new result error is same saves failed = record {
+pub put-stops :
+    (number : ℕ) (due : Option (Vec ℕ Global)) (image : Vec ℕ Global) (bytes : List ℕ) (old new : FolderView) (result : Result (Unit {0}) SaveError) (error : SaveError) (given : Answer)
+    → due ≡ Some image → bytes ≡ image.items → Saves (generation_name number) bytes old new result → result ≡ Err error → given ≡ save_answer error → PutStops number due old new given
+put-stops number due image bytes old new result error given is same saves failed answer = record {
   image = image;
   is_due = is;
   error = error;
   saves = subst (Saves (generation_name number) image.items old new) failed (subst (λ (bs : List ℕ). Saves (generation_name number) bs old new result) same saves);
-  is = refl;
+  is = answer;
 }
 
--- the size that is set lies within its limits
-pub size-within : (values : List (String Global)) (size : ℕ) → IsSet 4096 67108864 4194304 values size → (4096 ≤ size) × (size ≤ 67108864)
-size-within [] size h = (omega (arith, h), omega (arith, h))
-size-within (value ∷ []) size h = (h.low, h.high)
+-- the lock stays
+pub put-locked : (number : ℕ) (due : Option (Vec ℕ Global)) (old new : FolderView) → IsPut number due old new → old.locked ≡ true → new.locked ≡ true
+put-locked number None old new put locked = ap (λ (v : FolderView). v.locked) put ∙ locked
+put-locked number (Some image) old new put locked = ap (λ (v : FolderView). v.locked) put.is ∙ locked
+
+-- the size that is given lies within its limits, and so does that of a first generation
+pub size-within : (values : List (String Global)) (size : Option ℕ) → IsGiven 4096 67108864 values size → IsSizeFor size
+size-within [] None h = tt
+size-within [] (Some number) h = cc h
+size-within (value ∷ []) None h = absurd h
+size-within (value ∷ []) (Some number) h = (h.low, h.high)
 size-within (value ∷ other ∷ values) size h = absurd h
+
+pub first-within : (size : Option ℕ) → IsSizeFor size → (4096 ≤ unwrap_or size 4194304) × (unwrap_or size 4194304 ≤ 67108864)
+first-within None h = (omega arith, omega arith)
+first-within (Some number) h = h
 
 -- ---- the whole run
 
@@ -403,48 +422,48 @@ dir-named (cas ∷ own ∷ words) dir other long is = ap Some (sym is)
 module _ (words : List (String Global)) (request : Request) (dir : String Global) (path : List ℕ) (ask : Ask words request dir) (is : path ≡ string_bytes dir) where
   pub check-prepares :
       (before : Outside) (folder : FolderView) (front : Front) (result : Result Output Answer) → request.task ≡ Validate → NotReached front
-      → IfOk result (λ output. ValidatePrepares path request.options.size before.folder folder output)
+      → IfOk result (λ output. ValidatePrepares path request.options before.folder folder output)
       → IfOk result (λ output. Prepares words before (record { source = before.source; folder = folder }) front output)
   check-prepares before folder front (Err given) task none h = tt
   check-prepares before folder front (Ok output) task none h = record {
     request = request;
     dir = dir;
     ask = ask;
-    is = inr (record { task_is = task; unread = refl; no_run = none; prepares = subst (λ (bs : List ℕ). ValidatePrepares bs request.options.size before.folder folder output) is h });
+    is = inr (record { task_is = task; unread = refl; no_run = none; prepares = subst (λ (bs : List ℕ). ValidatePrepares bs request.options before.folder folder output) is h });
   }
 
   pub check-refuses :
       (before : Outside) (folder : FolderView) (front : Front) (result : Result Output Answer) → request.task ≡ Validate → NotReached front
-      → IfErr result (λ answer. ValidateRefuses path request.options.size before.folder folder answer)
+      → IfErr result (λ answer. ValidateRefuses path request.options before.folder folder answer)
       → IfErr result (λ answer. Refuses words before (record { source = before.source; folder = folder }) front answer)
   check-refuses before folder front (Ok output) task none h = tt
   check-refuses before folder front (Err given) task none h = inr (record {
     request = request;
     dir = dir;
     ask = ask;
-    is = inr (inr (record { task_is = task; unread = refl; no_run = none; refuses = subst (λ (bs : List ℕ). ValidateRefuses bs request.options.size before.folder folder given) is h }));
+    is = inr (inr (record { task_is = task; unread = refl; no_run = none; refuses = subst (λ (bs : List ℕ). ValidateRefuses bs request.options before.folder folder given) is h }));
   })
 
   pub task-prepares :
       (before after : Outside) (front : Front) (work : Work) (result : Result Output Answer) → IsWork request.task before.source after.source work
-      → IfOk result (λ output. RunPrepares path request.options.size work before.folder after.folder front output) → IfOk result (λ output. Prepares words before after front output)
+      → IfOk result (λ output. RunPrepares path request.options work before.folder after.folder front output) → IfOk result (λ output. Prepares words before after front output)
   task-prepares before after front work (Err given) is_work h = tt
   task-prepares before after front work (Ok output) is_work h = record {
     request = request;
     dir = dir;
     ask = ask;
-    is = inl (record { work = work; is_work = is_work; prepares = subst (λ (bs : List ℕ). RunPrepares bs request.options.size work before.folder after.folder front output) is h });
+    is = inl (record { work = work; is_work = is_work; prepares = subst (λ (bs : List ℕ). RunPrepares bs request.options work before.folder after.folder front output) is h });
   }
 
   pub task-refuses :
       (before after : Outside) (front : Front) (work : Work) (result : Result Output Answer) → IsWork request.task before.source after.source work
-      → IfErr result (λ answer. RunRefuses path request.options.size work before.folder after.folder front answer) → IfErr result (λ answer. Refuses words before after front answer)
+      → IfErr result (λ answer. RunRefuses path request.options work before.folder after.folder front answer) → IfErr result (λ answer. Refuses words before after front answer)
   task-refuses before after front work (Ok output) is_work h = tt
   task-refuses before after front work (Err given) is_work h = inr (record {
     request = request;
     dir = dir;
     ask = ask;
-    is = inr (inl (record { work = work; is_work = is_work; refuses = subst (λ (bs : List ℕ). RunRefuses bs request.options.size work before.folder after.folder front given) is h }));
+    is = inr (inl (record { work = work; is_work = is_work; refuses = subst (λ (bs : List ℕ). RunRefuses bs request.options work before.folder after.folder front given) is h }));
   })
 
   pub work-stops :

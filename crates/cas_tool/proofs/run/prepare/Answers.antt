@@ -22,11 +22,9 @@ returns-in-Validate-clause-err g c =
 
 pub run_in_folder-requires : goal.run_in_folder-requires
 run_in_folder-requires g c =
-    let size = size-within _ c.in-Ok.request.options.size c.in-Ok.ensures.have.names.have.size in
     record {
       enters = c.requires;
-      least = size.0;
-      most = size.1;
+      size = size-within _ c.in-Ok.request.options.size c.in-Ok.ensures.have.names.have.size;
       fits = c.in-Ok-work_of.ensures.fits;
       one = one-call c.in-Ok.request.task _ _ c.in-Ok-work_of.work c.in-Ok-work_of.ensures.work;
     }
