@@ -1,23 +1,38 @@
 -- What a run leaves is what it began with, or more.
-use Rattle.std.proofs.Common.{◌≡◌, ◌≢◌, ℕ, suc, ◌+◌, ◌<◌, inl, inr, List, [], ◌∷◌, length, Bool, true, false, cond, ◌&&◌, ◌==◌, Some, None, is_some, refl, ap, sym, subst, ◌∙◌, arith}
+use Rattle.std.proofs.Common.{◌≡◌, ◌≢◌, ℕ, zero, suc, ◌+◌, ◌<◌, inl, inr, List, [], ◌∷◌, length, Bool, true, false, cond, ◌&&◌, ◌==◌, Some, None, is_some, refl, ap, sym, subst, ◌∙◌, arith}
 use Rattle.std.proofs.lemmas.Bool.{eq-eqb, eqb-true}
+use Rattle.std.specs.declared.alloc.Global.{Global}
 use Rattle.std.specs.declared.option.Option.{Option}
+use Rattle.std.specs.declared.vec.Vec.{Vec}
 use Rattle.std.specs.FinMap as fin
-use Rattle.cas_model.specs.declared.call.Call.{Call}
-use Rattle.cas_model.specs.declared.call.Call.TheVariants.{Store, Load, Put, Get}
-use Rattle.cas_model.specs.declared.call.Reply.{Reply}
-use Rattle.cas_model.specs.declared.call.Reply.TheVariants.{Stored, Found, Missing, Kept, Hit, Miss, Dangling, Full}
 use Rattle.cas_model.specs.declared.contents.Pair.{Pair}
 use Rattle.cas_model.specs.declared.digest.Digest.{Digest}
 use Rattle.cas_model.specs.declared.object.Object.{Object}
+use Rattle.cas_model.specs.declared.place.Place.{Place}
+use Rattle.cas_model.specs.declared.place.Space.{Space}
+use Rattle.cas_model.specs.declared.place.Space.TheVariants.{Objects, Actions}
+use Rattle.cas_model.specs.declared.tables.Record.{Record}
 use Rattle.cas_model.specs.Contents.{AreLawfulContents, AreStorable, ArePuttable, contents_state, object_digests, objects_map, actions_map, pair_keys}
 use Rattle.cas_model.specs.Object.{object_digest}
+use Rattle.cas_model.specs.Primary.{cell_at, cell_under, primary}
 use Rattle.cas_model.specs.State.{State, Member, digest_cmp}
-use Rattle.cas_model.specs.Step.{Entry, IsLegal, Keeps, Step, added}
-use Rattle.cas_model.proofs.Maps.{digest_total, get-put, same-is}
-use Rattle.cas_model.specs.Tables.{same_digest}
+use Rattle.cas_model.specs.Tables.{Tables, cell_of, digest_at, object_of, record_at, same_digest}
+use Rattle.cas_model.proofs.Maps.{digest_total, get-object, get-put, get-value, same-is}
+use Rattle.cas_history.specs.declared.event.Act.{Act}
+use Rattle.cas_history.specs.declared.event.Act.TheVariants.{Look, Bind, Read, Claim, Room, Fill}
+use Rattle.cas_history.specs.declared.event.Event.{Event}
+use Rattle.cas_history.specs.Carried.{carried_by, filled_state, state_filled_by}
+use Rattle.cas_history.specs.Lawful.{IsLawfulRun}
+use Rattle.cas_history.specs.Run.{primary_of, tables}
+use Rattle.cas_history.proofs.Sound.{IsSound, sound-run}
+use Rattle.cas_history.proofs.Under.{kept-none, primary-act, under-none}
 use Rattle.frozen_store.specs.declared.frozen.Counts.{Counts}
-use Rattle.cas_tool.specs.Closing.{Grows, MayGrow}
+use Rattle.frozen_store.specs.Seen.{FrozenSeen}
+use Rattle.generations.specs.Rotation.{NeedsRotation}
+use Rattle.cas_tool.specs.declared.closing.Images.{Images}
+use Rattle.cas_tool.specs.declared.rotation.Rotation.{Rotation}
+use Rattle.cas_tool.specs.Closing.{AreDue, Grows, IsClosedAt, IsImageDue, MayGrow, words_used}
+use Rattle.cas_tool.specs.Rotation.{IsNextDue}
 
 -- ---- maps
 
@@ -48,54 +63,40 @@ grows-same s new same = record { objects = inl (ap (λ (x : State). x.objects) s
 grows-then : (a b c : State) → Grows a b → Grows b c → Grows a c
 grows-then a b c ab bc = record { objects = may-then a.objects b.objects c.objects ab.objects bc.objects; cache = may-then a.cache b.cache c.cache ab.cache bc.cache }
 
-grows-added : (s : State) (o : Object) (there : Option Object) → fin.get s.objects (object_digest o) ≡ there → Grows s (added s o there)
-grows-added s o (Some x) is = grows-same s s refl
-grows-added s o None is = record { objects = may-put s.objects (object_digest o) o is; cache = inl refl }
+-- ---- runs
 
-grows-kept : (s : State) (k v : Digest) (there : Option Digest) (kept : Digest) (new : State) → fin.get s.cache k ≡ there → Keeps s k v there kept new → Grows s new
-grows-kept s k v (Some w) kept new is step = grows-same s new step.1
-grows-kept s k v None kept new is step =
-    subst (Grows s) (sym step.1) (record { objects = inl refl; cache = may-put s.cache k v is })
+-- where a fill wins, nothing stood under the record's digest
+cell-empty : (s : Tables) (cell : Place) (r : Record) → IsSound s → cell_of s.filled cell.at ≡ 0 → record_at s.bound cell.at ≡ Some r → cell_under s r.space r.digest ≡ 0
+cell-empty s cell r sound empty at =
+    let there = sound.tied.back cell.at r at in
+    ap (cell_at s.filled) there.0 ∙ ap (cell_of s.filled) there.1 ∙ empty
 
-grows-step : (size : ℕ) (s new : State) (call : Call) (reply : Reply) → Step size s call reply new → Grows s new
-grows-step size s new (Store o) (Stored d) step = subst (Grows s) (sym step.2) (grows-added s o (fin.get s.objects (object_digest o)) refl)
-grows-step size s new (Store o) (Dangling i d) step = grows-same s new step.1
-grows-step size s new (Store o) (Full at asked limit) step = grows-same s new step.1
-grows-step size s new (Store o) (Found x) step = absurd step
-grows-step size s new (Store o) Missing step = absurd step
-grows-step size s new (Store o) (Kept d) step = absurd step
-grows-step size s new (Store o) (Hit d) step = absurd step
-grows-step size s new (Store o) Miss step = absurd step
-grows-step size s new (Load d) (Found o) step = grows-same s new step.1
-grows-step size s new (Load d) Missing step = grows-same s new step.1
-grows-step size s new (Load d) (Full at asked limit) step = grows-same s new step.1
-grows-step size s new (Load d) (Stored x) step = absurd step
-grows-step size s new (Load d) (Dangling i x) step = absurd step
-grows-step size s new (Load d) (Kept x) step = absurd step
-grows-step size s new (Load d) (Hit x) step = absurd step
-grows-step size s new (Load d) Miss step = absurd step
-grows-step size s new (Put k v) (Kept d) step = grows-kept s k v (fin.get s.cache k) d new refl step.1
-grows-step size s new (Put k v) (Dangling i d) step = grows-same s new step.1
-grows-step size s new (Put k v) (Full at asked limit) step = grows-same s new step.1
-grows-step size s new (Put k v) (Stored x) step = absurd step
-grows-step size s new (Put k v) (Found x) step = absurd step
-grows-step size s new (Put k v) Missing step = absurd step
-grows-step size s new (Put k v) (Hit x) step = absurd step
-grows-step size s new (Put k v) Miss step = absurd step
-grows-step size s new (Get k) (Hit d) step = grows-same s new step.1
-grows-step size s new (Get k) Miss step = grows-same s new step.1
-grows-step size s new (Get k) (Full at asked limit) step = grows-same s new step.1
-grows-step size s new (Get k) (Stored x) step = absurd step
-grows-step size s new (Get k) (Found x) step = absurd step
-grows-step size s new (Get k) Missing step = absurd step
-grows-step size s new (Get k) (Kept x) step = absurd step
-grows-step size s new (Get k) (Dangling i x) step = absurd step
+grows-filled : (s : Tables) (space : Space) (d : Digest) (o : Object) (value : Digest) → cell_under s space d ≡ 0 → Grows (primary s) (filled_state (primary s) space d o value)
+grows-filled s Objects d o value empty = record { objects = may-put (primary s).objects d o (get-object s d ∙ under-none s d empty); cache = inl refl }
+grows-filled s Actions d o value empty = record { objects = inl refl; cache = may-put (primary s).cache d value (get-value s d ∙ kept-none s d empty) }
 
--- what a legal history leaves is what it began with, or more
-pub grows-legal : (size : ℕ) (s new : State) (entries : List Entry) → IsLegal size s entries new → Grows s new
-grows-legal size s new [] legal = grows-same s new legal
-grows-legal size s new (entry ∷ earlier) legal =
-    grows-then s legal.0 new (grows-legal size s legal.0 earlier legal.1) (grows-step size legal.0 new entry.call entry.reply legal.2)
+grows-fill : (s : Tables) (cell : Place) (had : ℕ) (found : Option Record) (value : ℕ) (words : List ℕ) → IsSound s → cell_of s.filled cell.at ≡ had → record_at s.bound cell.at ≡ found
+    → Grows (primary s) (state_filled_by (primary s) s had found value words)
+grows-fill s cell (suc had) found value words sound is at = grows-same (primary s) (primary s) refl
+grows-fill s cell zero None value words sound is at = grows-same (primary s) (primary s) refl
+grows-fill s cell zero (Some r) value words sound is at =
+    grows-filled s r.space r.digest (object_of s.bound words) (digest_at s.bound value) (cell-empty s cell r sound is at)
+
+grows-act : (s : Tables) (act : Act) → IsSound s → Grows (primary s) (carried_by (primary s) s act)
+grows-act s (Look space digest) sound = grows-same (primary s) (primary s) refl
+grows-act s (Bind space digest own) sound = grows-same (primary s) (primary s) refl
+grows-act s (Read cell) sound = grows-same (primary s) (primary s) refl
+grows-act s (Claim n) sound = grows-same (primary s) (primary s) refl
+grows-act s (Room n moved) sound = grows-same (primary s) (primary s) refl
+grows-act s (Fill cell value words) sound = grows-fill s cell (cell_of s.filled cell.at) (record_at s.bound cell.at) value words sound refl refl
+
+-- what a lawful run leaves is what it began with, or more
+pub grows-run : (up : State) (start : Tables) (seen : List Event) → IsLawfulRun up start seen → Grows (primary start) (primary_of start seen)
+grows-run up start [] lawful = grows-same (primary start) (primary start) refl
+grows-run up start (e ∷ es) lawful =
+    let sound = sound-run up start es lawful.0 in
+    grows-then (primary start) (primary_of start es) (primary_of start (e ∷ es)) (grows-run up start es lawful.0)
+    (subst (Grows (primary_of start es)) (sym (primary-act up (tables start es) e.note.who e.act sound lawful.1)) (grows-act (tables start es) e.act sound))
 
 -- ---- how many objects and keys contents hold
 
@@ -192,3 +193,27 @@ something-new opened objects actions now before lawful many-objects many-actions
     let one : now.objects ≡ before.objects = many-objects ∙ sym (objects-counted objects actions lawful) ∙ ap (λ (s : State). fin.len s.objects) same ∙ sym had-objects in
     let two : now.actions ≡ before.actions = many-actions ∙ sym (actions-counted objects actions lawful) ∙ ap (λ (s : State). fin.len s.cache) same ∙ sym had-actions in
     other (λ i. record { objects = one i; actions = two i })
+
+-- ---- the images that are due
+
+none-due : (size used : ℕ) (opened closed : State) (rotation : Rotation) (full : Bool) (images : Images) → images.image ≡ None → images.next ≡ None → closed ≡ opened
+    → (NeedsRotation used rotation.limit full → ⊥) → AreDue size opened closed rotation used full images
+none-due size used opened closed rotation full images no_image no_next same off = record {
+  image = subst (λ (o : Option (Vec ℕ Global)). IsImageDue size opened closed o) (sym no_image) same;
+  next = subst (λ (o : Option (Vec ℕ Global)). IsNextDue rotation size closed used full o) (sym no_next) (λ due. off due.needed);
+}
+
+pub nothing-due : (size used : ℕ) (opened closed : State) (rotation : Rotation) (full : Bool) → closed ≡ opened → (NeedsRotation used rotation.limit full → ⊥)
+    → AreDue size opened closed rotation used full (record { image = None; next = None })
+nothing-due size used opened closed rotation full same off = none-due size used opened closed rotation full (record { image = None; next = None }) refl refl same off
+
+-- what is due at a closed region is due at its contents
+pub due-at :
+    (closed : FrozenSeen) (size : ℕ) (objects : List Object) (actions : List Pair) (opened : State) (rotation : Rotation) (full : Bool) (images : Images) → IsClosedAt size objects actions closed
+    → IsImageDue closed.tables.size opened (primary closed.tables) images.image
+    → IsNextDue rotation closed.tables.size (primary closed.tables) (length closed.words) full images.next
+    → AreDue size opened (contents_state objects actions) rotation (words_used objects actions) full images
+due-at closed size objects actions opened rotation full images at image next =
+    subst (λ (n : ℕ). AreDue n opened (contents_state objects actions) rotation (words_used objects actions) full images) at.size_is
+    (subst (λ (s : State). AreDue closed.tables.size opened s rotation (words_used objects actions) full images) at.state
+    (subst (λ (n : ℕ). AreDue closed.tables.size opened (primary closed.tables) rotation n full images) at.used (record { image = image; next = next })))

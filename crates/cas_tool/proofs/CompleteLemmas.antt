@@ -1,5 +1,5 @@
 -- Where nothing fails, a run has one of few answers.
-use Rattle.std.proofs.Common.{◌≡◌, ℕ, ◌≤◌, ◌⊎◌, inl, inr, Bool, true, false, cond, List, [], ◌∷◌, slice_get, Some, None, Err, ap, sym, subst, ◌∙◌}
+use Rattle.std.proofs.Common.{◌≡◌, ℕ, ◌+◌, ◌≤◌, ◌⊎◌, inl, inr, Bool, true, false, cond, List, [], ◌∷◌, slice_get, Some, None, Err, ap, sym, subst, ◌∙◌, arith}
 use Rattle.std.specs.Prelude.{String}
 use Rattle.std.specs.String.{string_bytes}
 use Rattle.std.specs.declared.alloc.Global.{Global}
@@ -9,14 +9,17 @@ use Rattle.std.specs.FinMap as fin
 use Rattle.cas_model.specs.declared.call.Reply.{Reply}
 use Rattle.cas_model.specs.declared.call.Reply.TheVariants as reply
 use Rattle.cas_model.specs.declared.digest.Digest.{Digest}
+use Rattle.cas_model.specs.State.{State}
 use Rattle.cas_model.specs.Tables.{same_digest}
 use Rattle.cas_outside.specs.Causes.{Rose}
 use Rattle.cas_outside.specs.Folder.{Files, FolderView}
 use Rattle.generations.specs.declared.saving.SaveError.{SaveError}
 use Rattle.generations.specs.declared.saving.SaveError.TheVariants as save
+use Rattle.generations.specs.FolderState.{HasState, IsStateOf}
 use Rattle.generations.specs.Names.{generation_name}
-use Rattle.generations.specs.Opened.{IsRefused}
+use Rattle.generations.specs.Opened.{IsDamaged, IsRefused}
 use Rattle.generations.specs.Saved.{SavesTo}
+use Rattle.generations.proofs.ChainStates.{chain-once}
 use Rattle.image_file.specs.declared.error.ImageError.{ImageError}
 use Rattle.image_file.specs.Image.{RefusesImage, image_bytes}
 use Rattle.image_file.proofs.ImageLemmas.{lawful-read}
@@ -29,8 +32,10 @@ use Rattle.sessions.specs.Single.{call_line}
 use Rattle.cas_tool.specs.declared.answer.Answer.{Answer}
 use Rattle.cas_tool.specs.declared.answer.Answer.TheVariants.{Done, Missing, Usage, ReadFault, WriteFault, FolderFault, Damaged, Full, Poisoned, Dangling, BadScript, Held, TooLarge, NoMemory}
 use Rattle.cas_tool.specs.declared.answer.Large.TheVariants.{Data, References, Script as ScriptBytes}
+use Rattle.cas_tool.specs.declared.closing.Images.{Images}
 use Rattle.cas_tool.specs.declared.command.Command.{Command}
 use Rattle.cas_tool.specs.declared.command.Command.TheVariants.{Make, CatNodeData, LsNodeRefs, PutCacheKey, GetCacheResult}
+use Rattle.cas_tool.specs.declared.command.Options.{Options}
 use Rattle.cas_tool.specs.declared.command.Task.{Task}
 use Rattle.cas_tool.specs.declared.command.Task.TheVariants.{Once, Batch, Workload, Validate, Prune}
 use Rattle.cas_tool.specs.declared.front.Front.{Front}
@@ -43,8 +48,7 @@ use Rattle.cas_tool.specs.Front.{closed_of}
 use Rattle.cas_tool.specs.Opening.{OpenCause}
 use Rattle.cas_tool.specs.Output.{IsOutputOfOne, Reports, call_of, refusal_of, shown_by}
 use Rattle.cas_tool.specs.Pruning.{EnterCause, PruneCause}
-use Rattle.cas_tool.specs.Run.{Because, Prepares, Refuses, SavingStops, UpkeepRefuses, World, WordsRefused, save_answer}
-use Rattle.cas_tool.specs.Words.{first_size}
+use Rattle.cas_tool.specs.Run.{Because, IsPut, Prepares, PutStops, Refuses, SavingStops, UpkeepRefuses, World, WordsRefused, save_answer}
 use Rattle.cas_tool.specs.Work.{IsWork, Source, TaskStops}
 use Rattle.cas_tool.proofs.FolderLemmas.{rose-since}
 use Rattle.cas_tool.proofs.RunLemmas.{IsOfReply, prepares-denied, upkeep-text}
@@ -108,17 +112,26 @@ stops-may Prune before after given quiet h = absurd h
 
 -- ---- a folder that is readable is not damaged
 
+-- a generation whose file is the image of lawful words is not damaged
+unharmed : (files : Files) (number : ℕ) (state : State) (error : ImageError) → HasState files number state → IsDamaged files number error → ⊥
+unharmed files number state error has damage =
+    let same : Some damage.file ≡ Some (image_bytes has.words) = sym damage.there ∙ has.file in
+    damage.named (lawful-read has.words has.size state error has.words_are has.stands (subst (λ (bs : List ℕ). RefusesImage bs error) (some-same same) damage.refused)) where
+      some-same : {X : Type 0} {x y : X} → Some x ≡ Some y → x ≡ y
+      some-same h = cc h
+
+state-there : (files : Files) (own : Option ℕ) (number : ℕ) (state : State) → own ≡ Some number → IsStateOf files own state → HasState files number state
+state-there files own number state is of = subst (λ (n : Option ℕ). IsStateOf files n state) is of
+
 undamaged : (files : Option Files) (name : ℕ) (error : ImageError) → IsReadable files → IsRefused files name error → ⊥
 undamaged None name error readable refused = readable
 undamaged (Some files) name error readable refused =
-    let which : (Some refused.primary ≡ Some name) ⊎ (refused.upstream ≡ Some name) = elim refused.which [ inl is ↦ inl (ap Some (sym is)) | inr below ↦ inr below.1 ] in
-    let there = readable (Some refused.primary) refused.upstream name refused.chain which in
-    let has = there.1 in
-    let damage = refused.damage in
-    let same : Some damage.file ≡ Some (image_bytes has.words) = sym damage.there ∙ has.file in
-    damage.named (lawful-read has.words has.size there.0 error has.words_are has.stands (subst (λ (bs : List ℕ). RefusesImage bs error) (some-same same) damage.refused)) where
-      some-same : {X : Type 0} {x y : X} → Some x ≡ Some y → x ≡ y
-      some-same h = cc h
+    let chain = readable.1.chain in
+    let numbers = chain-once files chain.primary_number chain.upstream_number (Some refused.primary) refused.upstream chain.numbers refused.chain in
+    elim refused.which [
+      | inl is ↦ unharmed files name readable.1.primary error (state-there files chain.primary_number name readable.1.primary (numbers.0 ∙ ap Some (sym is)) chain.primary_is) refused.damage
+      | inr below ↦ unharmed files name readable.1.upstream error (state-there files chain.upstream_number name readable.1.upstream (numbers.1 ∙ below.1) chain.upstream_is) refused.damage
+    ]
 
 opens-may :
     (task : Task) (old new : FolderView) (given : Answer) → (Rose old.faults new.faults → ⊥) → (Rose old.held new.held → ⊥) → IsReadable old.files → OpenCause old new given → MayAnswer task given
@@ -137,10 +150,10 @@ opens-may task old new Held quiet free readable h = absurd (free h)
 opens-may task old new (TooLarge what number) quiet free readable h = absurd h
 opens-may task old new NoMemory quiet free readable h = memory-may task
 
-saves-may :
+written-may :
     (task : Task) (number : ℕ) (due : Option (Vec ℕ Global)) (old between new : FolderView) (given : Answer) → (Rose old.faults new.faults → ⊥) → old.faults ≤ between.faults
-    → SavingStops number due between new given → MayAnswer task given
-saves-may task number due old between new given quiet later stops = by-error stops.error stops.is stops.saves.to where
+    → PutStops number due between new given → MayAnswer task given
+written-may task number due old between new given quiet later stops = by-error stops.error stops.is stops.saves.to where
   by-error : (error : SaveError) → given ≡ save_answer error → SavesTo (generation_name number) stops.image.items between new (Err error) → MayAnswer task given
   by-error save.FolderFault is to = absurd (quiet (rose-since old.faults between.faults new.faults later to.1))
   by-error save.Memory is to = given-memory task given is
@@ -180,19 +193,32 @@ prunes-may task old between new NoMemory quiet later h = memory-may task
 
 -- why a task without a script stopped
 upkeep-may :
-    (task : Task) (dir : List ℕ) (size : ℕ) (old new : FolderView) (given : Answer) → (Rose old.faults new.faults → ⊥) → (Rose old.held new.held → ⊥) → IsReadable old.files
-    → UpkeepRefuses task dir size old new given → MayAnswer task given
-upkeep-may Validate dir size old new given quiet free readable h = elim h [
+    (task : Task) (dir : List ℕ) (options : Options) (old new : FolderView) (given : Answer) → (Rose old.faults new.faults → ⊥) → (Rose old.held new.held → ⊥) → IsReadable old.files
+    → UpkeepRefuses task dir options old new given → MayAnswer task given
+upkeep-may Validate dir options old new given quiet free readable h = elim h [
   | inl opening ↦ opens-may Validate old new given quiet free readable opening.cause
   | inr checking ↦ given-memory Validate given checking.memory
 ]
-upkeep-may Prune dir size old new given quiet free readable h = elim h [
+upkeep-may Prune dir options old new given quiet free readable h = elim h [
   | inl entering ↦ enters-may Prune old new given quiet free entering.cause
   | inr pruning ↦ prunes-may Prune old pruning.between new given quiet pruning.enters.only.later.faults pruning.cause
 ]
-upkeep-may (Once command) dir size old new given quiet free readable h = absurd h
-upkeep-may Batch dir size old new given quiet free readable h = absurd h
-upkeep-may (Workload rounds) dir size old new given quiet free readable h = absurd h
+upkeep-may (Once command) dir options old new given quiet free readable h = absurd h
+upkeep-may Batch dir options old new given quiet free readable h = absurd h
+upkeep-may (Workload rounds) dir options old new given quiet free readable h = absurd h
+written-later : (number : ℕ) (due : Option (Vec ℕ Global)) (old new : FolderView) → IsPut number due old new → old.faults ≤ new.faults
+written-later number None old new put = let same = ap (λ (v : FolderView). v.faults) put in omega (arith, same)
+written-later number (Some image) old new put = put.later.faults
+
+saves-may :
+    (task : Task) (number : ℕ) (images : Images) (old between new : FolderView) (given : Answer) → (Rose old.faults new.faults → ⊥) → old.faults ≤ between.faults
+    → SavingStops number images between new given → MayAnswer task given
+saves-may task number images old between new given quiet later stops = elim stops [
+  | inl saving ↦ written-may task number images.image old between new given quiet later saving
+  | inr rotating ↦
+      let more = written-later number images.image between rotating.between rotating.saved in
+      written-may task (number + 1) images.next old rotating.between new given quiet (omega (arith, later, more)) rotating.stops
+]
 
 -- ---- answers in place of a text
 
@@ -257,10 +283,10 @@ module _ (words : List (String Global)) (before after : World) (front : Front) (
             | inr later ↦ elim later [
               | inl running ↦ given-memory stop.request.task given running.memory
               | inr saving ↦
-                  saves-may stop.request.task saving.opened.number saving.made.image before.outside.folder saving.between after.outside.folder given quiet.folder saving.opens.only.later.faults saving.stops
+                  saves-may stop.request.task saving.opened.number saving.made.images before.outside.folder saving.between after.outside.folder given quiet.folder saving.opens.only.later.faults saving.stops
             ]
           ]
-          | inr upkeep ↦ upkeep-may stop.request.task (string_bytes stop.dir) (first_size stop.request.options) before.outside.folder after.outside.folder given quiet.folder quiet.held readable upkeep.refuses
+          | inr upkeep ↦ upkeep-may stop.request.task (string_bytes stop.dir) stop.request.options before.outside.folder after.outside.folder given quiet.folder quiet.held readable upkeep.refuses
         ]
       ];
     })

@@ -1,146 +1,117 @@
--- The history of a run goes from the state of the folder's primary to that of the primary that was saved.
-use Rattle.std.proofs.Common.{◌≡◌, ◌⊎◌, inl, inr, ℕ, ◌<◌, ◌≤◌, List, Bool, true, false, cond, is_some, Some, None, refl, ap, sym, subst, ◌∙◌, arith}
-use Rattle.std.specs.Prelude.{String}
+-- The history of a run goes from the state of the folder to that of the folder at the end.
+use Rattle.std.proofs.Common.{◌≡◌, ◌⊎◌, inl, inr, ℕ, ◌+◌, ◌<◌, Bool, true, false, List, Some, None, refl, ap, sym, subst, ◌∙◌}
+use Rattle.std.specs.Prelude.{String, unwrap_or}
 use Rattle.std.specs.String.{string_bytes}
-use Rattle.std.specs.Cmp.Lexicographic.{bytes_decides, nat_list_cmp_total, slice_cmp, texts_ties}
-use Rattle.std.specs.Ordering.{eq_by_cmp, nat_cmp}
 use Rattle.std.specs.declared.alloc.Global.{Global}
 use Rattle.std.specs.declared.option.Option.{Option}
 use Rattle.std.specs.declared.vec.Vec.{Vec}
 use Rattle.std.specs.FinMap as fin
 use Rattle.cas_model.specs.Primary.{primary}
-use Rattle.cas_model.specs.State.{State}
+use Rattle.cas_model.specs.State.{State, empty_state}
 use Rattle.cas_outside.specs.Folder.{Files, FolderView, PutsFile}
 use Rattle.generations.specs.declared.opening.Opened.{Opened}
-use Rattle.generations.specs.Chain.{HasGeneration, IsHighestBelow, IsToldChain}
+use Rattle.generations.specs.FolderState.{HasChain}
+use Rattle.generations.specs.Laws.{ReadsChain}
 use Rattle.generations.specs.Names.{generation_name}
-use Rattle.generations.specs.Opened.{IsOpened, OpensTo, numbered, primary_number, upstream_number}
-use Rattle.generations.proofs.NameLemmas.{one-number}
+use Rattle.generations.specs.Opened.{OpensTo, numbered}
+use Rattle.generations.specs.Upstream.{upstream_state}
+use Rattle.generations.proofs.ChainStates.{opened-chain, rotated-chain, saved-chain}
+use Rattle.image_file.specs.Image.{image_bytes}
+use Rattle.region_core.specs.Builds.{empty_region}
 use Rattle.cas_tool.specs.declared.answer.Answer.{Answer}
 use Rattle.cas_tool.specs.declared.answer.Answer.TheVariants.{Done, Missing, Usage, ReadFault, WriteFault, FolderFault, Damaged, Full, Poisoned, Dangling, BadScript, Held, TooLarge, NoMemory}
+use Rattle.cas_tool.specs.declared.closing.Images.{Images}
+use Rattle.cas_tool.specs.declared.command.Options.{Options}
 use Rattle.cas_tool.specs.declared.front.Front.{Front}
 use Rattle.cas_tool.specs.declared.front.Run.{Run}
 use Rattle.cas_tool.specs.declared.output.Output.{Output}
 use Rattle.cas_tool.specs.declared.output.Output.TheVariants.{Denied}
+use Rattle.cas_tool.specs.declared.rotation.Rotation.{Rotation}
 use Rattle.cas_tool.specs.declared.work.Work.{Work}
-use Rattle.cas_tool.specs.Closing.{IsImageDue, IsImageOf}
+use Rattle.cas_tool.specs.Closing.{IsImageDue}
 use Rattle.cas_tool.specs.Front.{NotReached, closed_of, front_run, run_of}
-use Rattle.cas_tool.specs.Headline.{ComesAfterSave, HasHeadline, IsPrimaryState, RunsFrom, RunsTo, RunsToTold}
-use Rattle.cas_tool.specs.Run.{Because, IsSaved, Outside, Prepares, Refuses, RunPrepares, World}
+use Rattle.cas_tool.specs.Headline.{ComesAfterSave, EndsWith, HasHeadline, RunsFrom, RunsTo, RunsToTold}
+use Rattle.cas_tool.specs.Rotation.{IsNextDue, full_seen}
+use Rattle.cas_tool.specs.Run.{Because, IsPut, Outside, Prepares, Refuses, RunPrepares, World, rotation_of}
 use Rattle.cas_tool.specs.Words.{first_size}
 use Rattle.cas_tool.proofs.RunLemmas.{IsOfReply, of-refused}
 use Rattle.cas_tool.proofs.ShownLemmas.{HasRun, shows-run}
 
--- ---- the state that was opened
+-- ---- the primary, saved where that is due
 
-opened-state :
-    (files : Files) (size : ℕ) (opened : Opened) (has : Bool) → opened.has_file ≡ has → IsHighestBelow (HasGeneration files) 4294967296 (numbered has opened.number)
-    → OpensTo has (Some files) size opened → IsPrimaryState files (primary opened.primary.tables)
-opened-state files size opened true is highest to = record {
-  number = Some opened.number;
-  highest = highest;
-  is = record {
-    words = opened.primary.words;
-    size = opened.primary.tables.size;
-    file = to.read.image;
-    words_are = to.read.seen.words_are;
-    stands = to.read.seen.stands;
-  };
-}
-opened-state files size opened false is highest to = record { number = None; highest = highest; is = ap primary to.tables }
+-- the number under which the primary is saved: its own, or the first where it has no file
+number-opened : (files : Files) (size : ℕ) (opened : Opened) (has : Bool) → OpensTo has (Some files) size opened → unwrap_or (numbered has opened.number) 1 ≡ opened.number
+number-opened files size opened true to = refl
+number-opened files size opened false to = sym to.first
 
-pub state-at-entry : (files : Files) (size : ℕ) (old new : FolderView) (opened : Opened) → old.files ≡ Some files → IsOpened size old new opened → IsPrimaryState files (primary opened.primary.tables)
-state-at-entry files size old new opened told h =
-    opened-state files size opened opened.has_file refl (subst (λ (fs : Option Files). IsToldChain fs (primary_number opened) (upstream_number opened)) told h.chain).primary_is
-    (subst (λ (fs : Option Files). OpensTo opened.has_file fs size opened) told h.to)
+-- a primary without a file holds nothing
+file-or-nothing : (files : Files) (size : ℕ) (opened : Opened) (has : Bool) → OpensTo has (Some files) size opened
+    → (numbered has opened.number ≡ Some opened.number) ⊎ (primary opened.primary.tables ≡ empty_state)
+file-or-nothing files size opened true to = inl refl
+file-or-nothing files size opened false to = inr (ap primary to.tables)
 
--- ---- the state that was saved
+-- the files have these states, and the primary has a file under this number where it holds something
+pub record HasChainFor (files : Files) (p u : State) (number : ℕ) : Type 0 where
+  pub chain : HasChain files p u
+  pub has : (chain.primary_number ≡ Some number) ⊎ (p ≡ empty_state)
 
--- a file under the name that is asked for, or the one that was there
-get-saved : (files : Files) (name bytes other : List ℕ) → fin.get (fin.insert files name bytes) other ≡ cond (eq_by_cmp (slice_cmp nat_cmp) other name) (Some bytes) (fin.get files other)
-get-saved files name bytes other = fin.get-insert nat_list_cmp_total files name bytes other
-
-saved-there : (files : Files) (name bytes : List ℕ) → fin.get (fin.insert files name bytes) name ≡ Some bytes
-saved-there files name bytes = get-saved files name bytes name ∙ ap (λ b. cond b (Some bytes) (fin.get files name)) (sym (texts_ties name name) ∙ (bytes_decides name name).1 refl)
-
--- a generation that is there now is the saved one, or was there
-was-there : (files : Files) (n m : ℕ) (bytes : List ℕ) → n < 4294967296 → HasGeneration (fin.insert files (generation_name n) bytes) m → (m ≡ n) ⊎ HasGeneration files m
-was-there files n m bytes small has = by-test (eq_by_cmp (slice_cmp nat_cmp) (generation_name m) (generation_name n)) refl where
-  by-test : (test : Bool) → eq_by_cmp (slice_cmp nat_cmp) (generation_name m) (generation_name n) ≡ test → (m ≡ n) ⊎ HasGeneration files m
-  by-test true is =
-      let same = (bytes_decides (generation_name m) (generation_name n)).0 (texts_ties (generation_name m) (generation_name n) ∙ is) in
-      let most = has.most in
-      inl (one-number m n (omega (arith, most)) (omega (arith, small)) same)
-  by-test false is = inr (record {
-    least = has.least;
-    most = has.most;
-    there = sym (ap is_some (get-saved files (generation_name n) bytes (generation_name m) ∙ ap (λ b. cond b (Some bytes) (fin.get files (generation_name m))) is)) ∙ has.there;
-  })
-
--- the highest generation's file is saved under its name, or the first one's where there is none
-pub record IsPrimaryNumber (files : Files) (has : Bool) (n : ℕ) : Type 0 where
-  pub highest : IsHighestBelow (HasGeneration files) 4294967296 (numbered has n)
-  pub first : has ≡ false → n ≡ 1
-
-number-small : (files : Files) (has : Bool) (n : ℕ) → IsPrimaryNumber files has n → n < 4294967296
-number-small files true n is = is.highest.1
-number-small files false n is = let first = is.first refl in omega (arith, first)
-
-number-least : (files : Files) (has : Bool) (n : ℕ) → IsPrimaryNumber files has n → 1 ≤ n
-number-least files true n is = is.highest.0.least
-number-least files false n is = let first = is.first refl in omega (arith, first)
-
-number-most : (files : Files) (has : Bool) (n m : ℕ) → IsPrimaryNumber files has n → m < 4294967296 → HasGeneration files m → m ≤ n
-number-most files true n m is below there = is.highest.2 m below there
-number-most files false n m is below there = absurd (is.highest m below there)
-
-saved-state : (files : Files) (has : Bool) (n size : ℕ) (state : State) (bytes : List ℕ) → IsPrimaryNumber files has n → IsImageOf size state bytes → IsPrimaryState (fin.insert files (generation_name n) bytes) state
-saved-state files has n size state bytes is image =
-    let small = number-small files has n is in
-    record {
-      number = Some n;
-      highest = (
-        record { least = number-least files has n is; most = omega (arith, small); there = ap is_some (saved-there files (generation_name n) bytes) },
-        small,
-        λ m below there. elim (was-there files n m bytes small there) [ inl same ↦ omega (arith, same) | inr before ↦ number-most files has n m is below before ],
-      );
-      is = record {
-        words = image.words;
-        size = size;
-        file = saved-there files (generation_name n) bytes ∙ ap (λ (bs : List ℕ). Some bs) image.is;
-        words_are = image.words_are;
-        stands = image.stands;
-      };
-    }
-
--- what was opened says under which number it is saved
-opened-number : (files : Files) (size : ℕ) (opened : Opened) (has : Bool) → IsHighestBelow (HasGeneration files) 4294967296 (numbered has opened.number) → OpensTo has (Some files) size opened
-    → IsPrimaryNumber files has opened.number
-opened-number files size opened true highest to = record { highest = highest; first = λ no. cc no }
-opened-number files size opened false highest to = record { highest = highest; first = λ no. to.first }
-
--- the files at the end, and that their primary has this state
-pub record EndsWith (new : Option Files) (state : State) : Type 0 where
+-- the files that are told now, once the primary was saved where that was due
+pub record SavedIn (now : Option Files) (closed upstream : State) (number : ℕ) : Type 0 where
   pub files : Files
-  pub told : new ≡ Some files
-  pub to : IsPrimaryState files state
+  pub told : now ≡ Some files
+  pub chain : HasChainFor files closed upstream number
 
-state-at-end :
-    (files : Files) (size : ℕ) (old between new : FolderView) (opened : Opened) (closed : State) (image : Option (Vec ℕ Global)) → old.files ≡ Some files → between.files ≡ old.files
-    → IsOpened size old between opened → IsImageDue opened.primary.tables.size (primary opened.primary.tables) closed image → IsSaved opened.number image between new → EndsWith new.files closed
-state-at-end files size old between new opened closed None told same h due saved = record {
+saved-in :
+    (files : Files) (size : ℕ) (opened : Opened) (closed : State) (image : Option (Vec ℕ Global)) (between mid : FolderView) → ReadsChain files opened
+    → OpensTo opened.has_file (Some files) size opened → between.files ≡ Some files → IsImageDue opened.primary.tables.size (primary opened.primary.tables) closed image
+    → IsPut opened.number image between mid → SavedIn mid.files closed (upstream_state opened.up) opened.number
+saved-in files size opened closed None between mid reads to told due put = record {
   files = files;
-  told = ap (λ (v : FolderView). v.files) saved ∙ same ∙ told;
-  to = subst (IsPrimaryState files) (sym due) (state-at-entry files size old between opened told h);
+  told = ap (λ (v : FolderView). v.files) put ∙ told;
+  chain = subst (λ (s : State). HasChainFor files s (upstream_state opened.up) opened.number) (sym due) (record {
+    chain = reads.chain;
+    has = elim (file-or-nothing files size opened opened.has_file to) [ inl number ↦ inl (reads.primary_is ∙ number) | inr nothing ↦ inr nothing ];
+  });
 }
-state-at-end files size old between new opened closed (Some image) told same h due saved =
-    let number = opened-number files size opened opened.has_file (subst (λ (fs : Option Files). IsToldChain fs (primary_number opened) (upstream_number opened)) told h.chain).primary_is
-    (subst (λ (fs : Option Files). OpensTo opened.has_file fs size opened) told h.to) in
+saved-in files size opened closed (Some image) between mid reads to told due put =
+    let number = number-opened files size opened opened.has_file to in
+    let at = saved-chain files (primary opened.primary.tables) (upstream_state opened.up) closed opened.number opened.primary.tables.size due.1.words reads.chain
+    (ap (λ (n : Option ℕ). unwrap_or n 1) reads.primary_is ∙ number) due.1.words_are due.1.stands in
     record {
-      files = fin.insert files (generation_name opened.number) image.items;
-      told = subst (λ (fs : Option Files). PutsFile fs new.files (generation_name opened.number) image.items) (same ∙ told) saved.to.0;
-      to = saved-state files opened.has_file opened.number opened.primary.tables.size closed image.items number due.1;
+      files = fin.insert files (generation_name opened.number) (image_bytes due.1.words);
+      told = subst (λ (bs : List ℕ). mid.files ≡ Some (fin.insert files (generation_name opened.number) bs)) due.1.is
+          (subst (λ (fs : Option Files). PutsFile fs mid.files (generation_name opened.number) image.items) told put.to.0);
+      chain = record { chain = at.chain; has = inl at.number_is };
     }
+
+-- ---- a new generation above it, where that is due
+
+-- the files that are told at the end
+pub record EndsIn (now : Option Files) (upstream closed : State) : Type 0 where
+  pub files : Files
+  pub told : now ≡ Some files
+  pub to : EndsWith files upstream closed
+
+rotated-in :
+    (files : Files) (p u : State) (number size used : ℕ) (full : Bool) (rotation : Rotation) (next : Option (Vec ℕ Global)) (mid new : FolderView) → rotation.number ≡ number
+    → HasChainFor files p u number → mid.files ≡ Some files → IsNextDue rotation size p used full next → IsPut (number + 1) next mid new → EndsIn new.files u p
+rotated-in files p u number size used full rotation None mid new same at told due put = record {
+  files = files;
+  told = ap (λ (v : FolderView). v.files) put ∙ told;
+  to = inl at.chain;
+}
+rotated-in files p u number size used full rotation (Some image) mid new same at told due put =
+    elim at.has [
+      | inl is ↦
+          let words = empty_region (unwrap_or rotation.size size) in
+          record {
+            files = fin.insert files (generation_name (number + 1)) (image_bytes words);
+            told = subst (λ (bs : List ℕ). new.files ≡ Some (fin.insert files (generation_name (number + 1)) bs)) due.1.is
+                (subst (λ (fs : Option Files). PutsFile fs new.files (generation_name (number + 1)) image.items) told put.to.0);
+            to = inr (rotated-chain files p u number (unwrap_or rotation.size size) words at.chain is (subst (λ (n : ℕ). n < 4294967295) same due.0.number) due.1.words_are due.1.stands);
+          }
+      | inr nothing ↦ absurd (due.0.holds nothing)
+    ]
 
 -- ---- the run
 
@@ -148,34 +119,40 @@ module _ (files : Files) (old : FolderView) (told : old.files ≡ Some files) (f
   runs-from : NotReached front ⊎ HasRun old front → (run : Run) → front_run front ≡ Some run → RunsFrom files run
   runs-from (inl none) run is = absurd (let two : None ≡ Some run = sym none ∙ is in cc two)
   runs-from (inr has) run is =
-      let same : run_of has.opened.primary has.script has.ran.events ≡ run = cc (sym has.ran.is ∙ is) in
-      subst (RunsFrom files) same (record { opened = primary has.opened.primary.tables; from = state-at-entry files has.size old has.between has.opened told has.is; runs = has.ran.runs })
+      let same : run_of has.opened.primary has.opened.up has.script has.ran.events ≡ run = cc (sym has.ran.is ∙ is) in
+      let reads = opened-chain files has.size old has.between has.opened told has.is in
+      subst (RunsFrom files) same
+      (record { opened = primary has.opened.primary.tables; upstream = upstream_state has.opened.up; from = reads.chain; runs = has.ran.runs })
 
   runs-to :
-      (dir : List ℕ) (size : ℕ) (work : Work) (new : FolderView) (output : Output) → RunPrepares dir size work old new front output → (run : Run) → front_run front ≡ Some run
+      (dir : List ℕ) (options : Options) (work : Work) (new : FolderView) (output : Output) → RunPrepares dir options work old new front output → (run : Run) → front_run front ≡ Some run
       → RunsToTold files new.files run
-  runs-to dir size work new output h run is =
+  runs-to dir options work new output h run is =
       let answered = h.has.answered in
-      let same : run_of h.opened.primary work.script answered.events ≡ run = cc (sym answered.is ∙ is) in
-      let closed = closed_of answered.events in
-      let unchanged = ap (λ (v : FolderView). v.files) h.opens.only.is in
-      let end = state-at-end files size old h.between new h.opened closed h.made.image told unchanged h.opens.is h.has.is.image h.saved in
-      let to : RunsTo files end.files (run_of h.opened.primary work.script answered.events) = record {
+      let made_run = run_of h.opened.primary h.opened.up work.script answered.events in
+      let same : made_run ≡ run = cc (sym answered.is ∙ is) in
+      let reads = opened-chain files (first_size options) old h.between h.opened told h.opens.is in
+      let to = subst (λ (fs : Option Files). OpensTo h.opened.has_file fs (first_size options) h.opened) told h.opens.is.to in
+      let unchanged = ap (λ (v : FolderView). v.files) h.opens.only.is ∙ told in
+      let due = h.has.is.due in
+      let mid = saved-in files (first_size options) h.opened (closed_of answered.events) h.made.images.image h.between h.saved.between reads to unchanged due.image h.saved.saved in
+      let end = rotated-in mid.files (closed_of answered.events) (upstream_state h.opened.up) h.opened.number h.opened.primary.tables.size h.has.is.used (full_seen h.has.replies.sessions)
+      (rotation_of options h.opened.number) h.made.images.next h.saved.between new refl mid.chain mid.told due.next h.saved.rotated in
+      let done : RunsTo files end.files made_run = record {
         opened = primary h.opened.primary.tables;
-        saved = closed;
-        from = state-at-entry files size old h.between h.opened told h.opens.is;
-        to = end.to;
+        upstream = upstream_state h.opened.up;
+        from = reads.chain;
         replies = h.has.replies;
         answers = answered.answers;
-        legal = answered.answers.runs.legal;
+        to = end.to;
       } in
-      subst (λ (fs : Option Files). RunsToTold files fs run) (sym end.told) (subst (RunsTo files end.files) same to)
+      subst (λ (fs : Option Files). RunsToTold files fs run) (sym end.told) (subst (RunsTo files end.files) same done)
 
 prepares-to :
     (files : Files) (words : List (String Global)) (before after : Outside) (front : Front) (output : Output) → before.folder.files ≡ Some files → Prepares words before after front output
     → (run : Run) → front_run front ≡ Some run → RunsToTold files after.folder.files run
 prepares-to files words before after front output told h run is = elim h.is [
-  | inl task ↦ runs-to files before.folder told front (string_bytes h.dir) (first_size h.request.options) task.work after.folder output task.prepares run is
+  | inl task ↦ runs-to files before.folder told front (string_bytes h.dir) h.request.options task.work after.folder output task.prepares run is
   | inr upkeep ↦ absurd (let two : None ≡ Some run = sym upkeep.no_run ∙ is in cc two)
 ]
 

@@ -1,5 +1,5 @@
--- The sessions of a script: their one legal history, from the state that was opened.
-use Rattle.std.proofs.Common.{◌≡◌, ℕ, zero, suc, ◌<◌, ◌≤◌, ◌==◌, Bool, true, false, cond, ◌⊎◌, inl, inr, List, [], ◌∷◌, ◌++◌, length, slice_get, Some, None, refl, ap, sym, subst, ◌∙◌, append-nil, arith}
+-- The sessions of a script: their one legal history, from the state that was opened, over that of the upstream.
+use Rattle.std.proofs.Common.{◌≡◌, ℕ, zero, suc, ◌<◌, ◌≤◌, ◌==◌, Bool, true, false, cond, ◌⊎◌, inl, inr, List, [], ◌∷◌, ◌++◌, length, slice_get, Some, None, refl, ap, sym, subst, ◌∙◌, append-nil, append_assoc, arith}
 use Rattle.std.specs.declared.option.Option.{Option}
 use Rattle.std.specs.Option.{option_or}
 use Rattle.std.specs.FinMap as fin
@@ -9,11 +9,12 @@ use Rattle.cas_model.specs.declared.call.Reply.{Reply}
 use Rattle.cas_model.specs.declared.call.Reply.TheVariants.{Stored, Found, Missing, Kept, Hit, Miss, Dangling, Full}
 use Rattle.cas_model.specs.declared.call.Who.{Who}
 use Rattle.cas_model.specs.declared.object.Object.{Object}
-use Rattle.cas_model.specs.declared.upstream.NoUpstream.{NoUpstream}
+use Rattle.cas_model.specs.declared.digest.Digest.{Digest}
 use Rattle.cas_model.specs.Primary.{primary}
 use Rattle.cas_model.specs.Start.{IsLawfulStart}
-use Rattle.cas_model.specs.State.{State, empty_state, over, digest_cmp}
-use Rattle.cas_model.proofs.Maps.{get-both, same-states}
+use Rattle.cas_model.specs.Object.{object_digest}
+use Rattle.cas_model.specs.State.{State, digest_cmp, empty_state, over}
+use Rattle.cas_model.proofs.Maps.{get-both}
 use Rattle.cas_model.specs.Step.{Entry, IsLegal}
 use Rattle.cas_model.specs.Tables.{Tables}
 use Rattle.cas_history.specs.declared.event.Event.{Event}
@@ -28,9 +29,10 @@ use Rattle.cas_history.specs.Theorem.{AllConduct}
 use Rattle.cas_history.proofs.Exact.{loads-exact}
 use Rattle.cas_history.proofs.Legal.{legal-run}
 use Rattle.cas_history.proofs.Placed.{lawful-start}
+use Rattle.cas_history.proofs.Promised.{promise-whole}
 use Rattle.cas_history.proofs.Sound.{sound-start}
 use Rattle.cas_history.proofs.Under.{storable}
-use Rattle.cell_port.specs.Plain.{PlainValue, upstream_of}
+use Rattle.cell_port.specs.Plain.{PlainValue}
 use Rattle.cell_port.specs.PlainView.{port_view}
 use Rattle.cell_port.specs.View.{View}
 use Rattle.graph_db.specs.Parts.{IsLawfulOrSame}
@@ -38,29 +40,25 @@ use Rattle.sessions.specs.declared.replies.SessionReplies.{SessionReplies}
 use Rattle.sessions.specs.declared.script.Session.{Session}
 use Rattle.sessions.specs.Turns.{AddsOfThese, AreOfThese, AreUnseen, FollowScript, FollowsLines, HaveRun, HaveStopped, IsAnswered, history_lines}
 use Rattle.cas_tool.specs.Opened.{IsOpenedAt}
-use Rattle.cas_tool.specs.History.{AnswersScript, AreOfSessions, RunsScript, shown, stored_by, stored_by_line, stored_by_lines, stored_by_sessions}
+use Rattle.cas_tool.specs.History.{AnswersScript, AreOfSessions, ArePromisesWhole, RunsScript, shown, stored_by, stored_by_line, stored_by_lines, stored_by_sessions}
 
--- ---- a view, as what a port of an empty region shows
+-- ---- a view, as what a port shows over its upstream
 
-abbrev pub view-of : State → Tables → List Event → View
-view-of up start seen = record { region = 0; start = start; upstream = up; seen = seen; speaks = λ _. true; takes_memory = true; opened = [] }
-
-lines-of-view : (v : View) (calls : Who → Option Call) (n : ℕ) (lines : List script.Line) → FollowsLines v calls n lines → FollowsLines (view-of v.upstream v.start v.seen) calls n lines
+lines-of-view : (v : View) (calls : Who → Option Call) (n : ℕ) (lines : List script.Line) → FollowsLines v calls n lines → FollowsLines (shown v.upstream v.start v.seen) calls n lines
 lines-of-view v calls n lines h = record { conduct = h.conduct; follows = h.follows; indexes = h.indexes; costs = h.costs; next = h.next }
 
-lines-shown : (v : View) (calls : Who → Option Call) (n : ℕ) (lines : List script.Line) → v.upstream ≡ empty_state → FollowsLines v calls n lines → FollowsLines (shown v.start v.seen) calls n lines
-lines-shown v calls n lines none h = subst (λ (u : State). FollowsLines (view-of u v.start v.seen) calls n lines) none (lines-of-view v calls n lines h)
-
-follow-shown : (v : View) (sessions : List Session) (calls : Who → Option Call) → v.upstream ≡ empty_state → FollowScript sessions calls v → FollowScript sessions calls (shown v.start v.seen)
-follow-shown v sessions calls none h = record { known = h.known; each = λ n session at. lines-shown v calls n (history_lines session.lines) none (h.each n session at) }
+follow-shown : (up : State) (v : View) (sessions : List Session) (calls : Who → Option Call) → v.upstream ≡ up → FollowScript sessions calls v → FollowScript sessions calls (shown up v.start v.seen)
+follow-shown up v sessions calls is h =
+    subst (λ (u : State). FollowScript sessions calls (shown u v.start v.seen)) is
+    (record { known = h.known; each = λ n session at. lines-of-view v calls n (history_lines session.lines) (h.each n session at) })
 
 answered-of-view : (v : View) (calls : Who → Option Call) (n : ℕ) (lines : List script.Line) (replies : List Reply) → IsAnswered v calls n lines replies
-    → IsAnswered (view-of v.upstream v.start v.seen) calls n lines replies
+    → IsAnswered (shown v.upstream v.start v.seen) calls n lines replies
 answered-of-view v calls n lines replies h = record { are = h.are; complete = h.complete }
 
-answered-shown : (v : View) (calls : Who → Option Call) (n : ℕ) (lines : List script.Line) (replies : List Reply) → v.upstream ≡ empty_state → IsAnswered v calls n lines replies
-    → IsAnswered (shown v.start v.seen) calls n lines replies
-answered-shown v calls n lines replies none h = subst (λ (u : State). IsAnswered (view-of u v.start v.seen) calls n lines replies) none (answered-of-view v calls n lines replies h)
+answered-shown : (up : State) (v : View) (calls : Who → Option Call) (n : ℕ) (lines : List script.Line) (replies : List Reply) → v.upstream ≡ up → IsAnswered v calls n lines replies
+    → IsAnswered (shown up v.start v.seen) calls n lines replies
+answered-shown up v calls n lines replies is h = subst (λ (u : State). IsAnswered (shown u v.start v.seen) calls n lines replies) is (answered-of-view v calls n lines replies h)
 
 -- ---- each session has conduct
 
@@ -68,10 +66,10 @@ of-sessions : (count : ℕ) (es : List Event) → AreOfThese (λ _. true) (λ n.
 of-sessions count [] own = tt
 of-sessions count (e ∷ es) own = (elim own.0 [ inl other ↦ cc other | inr here ↦ here ], of-sessions count es own.1)
 
-past-conduct : (start : Tables) (calls : Who → Option Call) (count session : ℕ) (es : List Event) → count ≤ session → AreOfSessions count es → HasConduct empty_state start calls session es
-past-conduct start calls count session [] past own = tt
-past-conduct start calls count session (e ∷ es) past own =
-    (past-conduct start calls count session es past own.1, λ (same : e.note.who.session ≡ session). let below = own.0 in absurd (omega (arith, below, same, past)))
+past-conduct : (up : State) (start : Tables) (calls : Who → Option Call) (count session : ℕ) (es : List Event) → count ≤ session → AreOfSessions count es → HasConduct up start calls session es
+past-conduct up start calls count session [] past own = tt
+past-conduct up start calls count session (e ∷ es) past own =
+    (past-conduct up start calls count session es past own.1, λ (same : e.note.who.session ≡ session). let below = own.0 in absurd (omega (arith, below, same, past)))
 
 pub below-or-past : (n m : ℕ) → (n < m) ⊎ (m ≤ n)
 below-or-past n zero = inr (omega arith)
@@ -83,33 +81,57 @@ there [] n lt = absurd (omega (arith, lt))
 there (x ∷ xs) zero lt = (x, refl)
 there (x ∷ xs) (suc n) lt = there xs n (omega (arith, lt))
 
-pub all-conduct : (start : Tables) (sessions : List Session) (calls : Who → Option Call) (es : List Event) → AreOfSessions (length sessions) es → FollowScript sessions calls (shown start es)
-    → AllConduct empty_state start calls es
-all-conduct start sessions calls es own follow session = step (below-or-past session (length sessions)) where
-  step : (session < length sessions) ⊎ (length sessions ≤ session) → HasConduct empty_state start calls session es
+pub all-conduct : (up : State) (start : Tables) (sessions : List Session) (calls : Who → Option Call) (es : List Event) → AreOfSessions (length sessions) es
+    → FollowScript sessions calls (shown up start es) → AllConduct up start calls es
+all-conduct up start sessions calls es own follow session = step (below-or-past session (length sessions)) where
+  step : (session < length sessions) ⊎ (length sessions ≤ session) → HasConduct up start calls session es
   step (inl below) = let at = there sessions session below in (follow.each session at.0 at.1).conduct
-  step (inr past) = past-conduct start calls (length sessions) session es past own
+  step (inr past) = past-conduct up start calls (length sessions) session es past own
 
--- ---- with no upstream, what is visible is the primary state
-
-pub over-empty : (p : State) → over p empty_state ≡ p
-over-empty p =
-    same-states (over p empty_state) p
-    (λ d. get-both p.objects fin.empty d ∙ ap (option_or (fin.get p.objects d)) (fin.get-empty digest_cmp d) ∙ alone (fin.get p.objects d))
-    (λ k. get-both p.cache fin.empty k ∙ ap (option_or (fin.get p.cache k)) (fin.get-empty digest_cmp k) ∙ alone (fin.get p.cache k)) where
-      alone : {X : Type 0} (o : Option X) → option_or o None ≡ o
-      alone None = refl
-      alone (Some x) = refl
-
-pub legal : (start : Tables) (calls : Who → Option Call) (seen : List Event) → IsLawfulRun empty_state start seen → AllConduct empty_state start calls seen
-    → IsLegal start.size (primary start) (history empty_state start calls seen) (primary_of start seen)
-legal start calls seen lawful conduct =
-    let run = legal-run empty_state start calls seen lawful conduct in
-    subst (λ (s : State). IsLegal start.size s (history empty_state start calls seen) (primary_of start seen)) (over-empty (primary start))
-    (subst (λ (s : State). IsLegal start.size (over (primary start) empty_state) (history empty_state start calls seen) s) (over-empty (primary_of start seen)) run)
+-- ---- what is visible has its own digests
 
 pub own-digests : (start : Tables) → IsLawfulStart start → HasOwnDigests (primary start)
 own-digests start lawful = (storable start (sound-start start lawful)).named
+
+either-own : (d : Digest) (o : Object) (first second : Option Object) → ((x : Object) → first ≡ Some x → object_digest x ≡ d) → ((x : Object) → second ≡ Some x → object_digest x ≡ d)
+    → option_or first second ≡ Some o → object_digest o ≡ d
+either-own d o None second one two is = two o is
+either-own d o (Some x) second one two is = one o is
+
+pub over-own : (p u : State) → HasOwnDigests p → HasOwnDigests u → HasOwnDigests (over p u)
+over-own p u one two d o is = either-own d o (fin.get p.objects d) (fin.get u.objects d) (one d) (two d) (sym (get-both p.objects u.objects d) ∙ is)
+
+pub none-own : (up : State) → up ≡ empty_state → HasOwnDigests up
+none-own up none d o is = let clash : None ≡ Some o = sym (ap (λ (s : State). fin.get s.objects d) none ∙ fin.get-empty digest_cmp d) ∙ is in cc clash
+
+-- ---- what the replies promise is whole at the end
+
+whole-entry :
+    (up : State) (start : Tables) (calls : Who → Option Call) (more : List Event) (e : Event) (es : List Event) (call : Call) (given : Option Reply) (earlier : List Entry)
+    → decided up (tables start es) call e.note.stage e.act ≡ given → calls e.note.who ≡ Some call → IsLawfulRun up start (more ++ e ∷ es)
+    → HasConduct up start calls e.note.who.session (e ∷ es) → ArePromisesWhole (primary_of start (more ++ e ∷ es)) earlier
+    → ArePromisesWhole (primary_of start (more ++ e ∷ es)) (with_entry e.note.who call given earlier)
+whole-entry up start calls more e es call None earlier is known lawful conduct rest = rest
+whole-entry up start calls more e es call (Some reply) earlier is known lawful conduct rest =
+    (λ d promises. promise-whole up start calls more e es call reply d lawful conduct known is promises, rest)
+
+whole-event :
+    (up : State) (start : Tables) (calls : Who → Option Call) (more : List Event) (e : Event) (es : List Event) (call : Option Call) (earlier : List Entry) → calls e.note.who ≡ call
+    → IsLawfulRun up start (more ++ e ∷ es) → HasConduct up start calls e.note.who.session (e ∷ es) → ArePromisesWhole (primary_of start (more ++ e ∷ es)) earlier
+    → ArePromisesWhole (primary_of start (more ++ e ∷ es)) (with_event up (tables start es) call e earlier)
+whole-event up start calls more e es None earlier known lawful conduct rest = rest
+whole-event up start calls more e es (Some call) earlier known lawful conduct rest =
+    whole-entry up start calls more e es call (decided up (tables start es) call e.note.stage e.act) earlier refl known lawful conduct rest
+
+pub whole-since :
+    (up : State) (start : Tables) (calls : Who → Option Call) (more es : List Event) → IsLawfulRun up start (more ++ es) → AllConduct up start calls es
+    → ArePromisesWhole (primary_of start (more ++ es)) (history up start calls es)
+whole-since up start calls more [] lawful conduct = tt
+whole-since up start calls more (e ∷ es) lawful conduct =
+    let same : (more ++ e ∷ []) ++ es ≡ more ++ e ∷ es = append_assoc more (e ∷ []) es in
+    let rest = whole-since up start calls (more ++ e ∷ []) es (subst (IsLawfulRun up start) (sym same) lawful) (λ session. (conduct session).0) in
+    whole-event up start calls more e es (calls e.note.who) (history up start calls es) refl lawful (conduct e.note.who.session)
+    (subst (λ (seen : List Event). ArePromisesWhole (primary_of start seen) (history up start calls es)) same rest)
 
 -- ---- what the history stores is the script's
 
@@ -218,25 +240,26 @@ entry-of : (count : ℕ) (who : Who) (call : Call) (reply : Option Reply) (es : 
 entry-of count who call None es below of = of
 entry-of count who call (Some reply) es below of = (below, of)
 
-event-of : (count : ℕ) (s : Tables) (call : Option Call) (e : Event) (es : List Entry) → e.note.who.session < count → AreEntriesOf count es → AreEntriesOf count (with_event empty_state s call e es)
-event-of count s None e es below of = of
-event-of count s (Some call) e es below of = entry-of count e.note.who call (decided empty_state s call e.note.stage e.act) es below of
+event-of : (count : ℕ) (up : State) (s : Tables) (call : Option Call) (e : Event) (es : List Entry) → e.note.who.session < count → AreEntriesOf count es → AreEntriesOf count (with_event up s call e es)
+event-of count up s None e es below of = of
+event-of count up s (Some call) e es below of = entry-of count e.note.who call (decided up s call e.note.stage e.act) es below of
 
-pub entries-of : (count : ℕ) (start : Tables) (calls : Who → Option Call) (es : List Event) → AreOfSessions count es → AreEntriesOf count (history empty_state start calls es)
-entries-of count start calls [] own = tt
-entries-of count start calls (e ∷ es) own = event-of count (tables start es) (calls e.note.who) e (history empty_state start calls es) own.0 (entries-of count start calls es own.1)
+pub entries-of : (count : ℕ) (up : State) (start : Tables) (calls : Who → Option Call) (es : List Event) → AreOfSessions count es → AreEntriesOf count (history up start calls es)
+entries-of count up start calls [] own = tt
+entries-of count up start calls (e ∷ es) own = event-of count up (tables start es) (calls e.note.who) e (history up start calls es) own.0 (entries-of count up start calls es own.1)
 
 -- ---- the run
 
--- the run of a script from a start that names the opened state
+-- the run of a script from a start that names the opened state, over an upstream
 abbrev pub run-of :
-    (sessions : List Session) (opened : State) (start : Tables) (calls : Who → Option Call) (seen : List Event) → primary start ≡ opened → IsLawfulRun empty_state start seen
-    → AreOfSessions (length sessions) seen → FollowScript sessions calls (shown start seen) → RunsScript sessions opened start seen
-run-of sessions opened start calls seen from lawful own follow =
-    let entries = history empty_state start calls seen in
-    let is = subst (λ (s : State). IsLegal start.size s entries (primary_of start seen)) from (legal start calls seen lawful (all-conduct start sessions calls seen own follow)) in
-    let digests = subst HasOwnDigests from (own-digests start (lawful-start empty_state start seen lawful)) in
-    let only = stores-only sessions entries (entries-of (length sessions) start calls seen own) (λ n session at. (follow.each n session at).follows) in
+    (sessions : List Session) (up opened : State) (start : Tables) (calls : Who → Option Call) (seen : List Event) → HasOwnDigests up → primary start ≡ opened → IsLawfulRun up start seen
+    → AreOfSessions (length sessions) seen → FollowScript sessions calls (shown up start seen) → RunsScript sessions up opened start seen
+run-of sessions up opened start calls seen named from lawful own follow =
+    let entries = history up start calls seen in
+    let conduct = all-conduct up start sessions calls seen own follow in
+    let is = subst (λ (s : State). IsLegal start.size (over s up) entries (over (primary_of start seen) up)) from (legal-run up start calls seen lawful conduct) in
+    let digests = over-own opened up (subst HasOwnDigests from (own-digests start (lawful-start up start seen lawful))) named in
+    let only = stores-only sessions entries (entries-of (length sessions) up start calls seen own) (λ n session at. (follow.each n session at).follows) in
     record {
       from = from;
       lawful = lawful;
@@ -244,79 +267,74 @@ run-of sessions opened start calls seen from lawful own follow =
       calls = calls;
       follow = follow;
       legal = is;
-      exact = loads-exact start.size opened (primary_of start seen) (stored_by_sessions sessions) entries digests is only;
+      exact = loads-exact start.size (over opened up) (over (primary_of start seen) up) (stored_by_sessions sessions) entries digests is only;
+      whole = whole-since up start calls [] seen lawful conduct;
     }
 
--- what a port shows that has no upstream and has seen nothing since this start
-pub record StartsAt (start : Tables) (v : View) : Type 0 where
-  pub no_upstream : v.upstream ≡ empty_state
+-- what a port shows over an upstream that has seen nothing since this start
+pub record StartsAt (up : State) (start : Tables) (v : View) : Type 0 where
+  pub upstream : v.upstream ≡ up
   pub from : v.start ≡ start
   pub unseen : v.seen ≡ []
   pub speaks : v.speaks ≡ (λ _. true)
 
 -- and what it shows once it has seen events of these sessions
-pub record Went (sessions : List Session) (start : Tables) (v : View) : Type 0 where
-  pub no_upstream : v.upstream ≡ empty_state
+pub record Went (sessions : List Session) (up : State) (start : Tables) (v : View) : Type 0 where
+  pub upstream : v.upstream ≡ up
   pub from : v.start ≡ start
   pub own : AreOfSessions (length sessions) v.seen
 
-went : (sessions : List Session) (start : Tables) (old new : View) → StartsAt start old → AddsOfThese (λ n. n < length sessions) old new → Went sessions start new
-went sessions start old new begin adds =
+went : (sessions : List Session) (up : State) (start : Tables) (old new : View) → StartsAt up start old → AddsOfThese (λ n. n < length sessions) old new → Went sessions up start new
+went sessions up start old new begin adds =
     let seen : new.seen ≡ adds.more ++ [] = ap (λ (v : View). v.seen) adds.is ∙ ap (λ (es : List Event). adds.more ++ es) begin.unseen in
     record {
-      no_upstream = ap (λ (v : View). v.upstream) adds.is ∙ begin.no_upstream;
+      upstream = ap (λ (v : View). v.upstream) adds.is ∙ begin.upstream;
       from = ap (λ (v : View). v.start) adds.is ∙ begin.from;
       own = subst (AreOfSessions (length sessions)) (sym (seen ∙ append-nil adds.more))
           (of-sessions (length sessions) adds.more (subst (λ (f : ℕ → Bool). AreOfThese f (λ n. n < length sessions) adds.more) begin.speaks adds.own));
     }
 
 -- what the port saw is a lawful run, also where nothing was asked of it
-lawful-end : (start : Tables) (old new : View) → IsLawfulStart start → StartsAt start old → new.upstream ≡ empty_state → new.start ≡ start → IsLawfulOrSame old new → IsLawfulRun empty_state start new.seen
-lawful-end start old new at begin none from h =
+lawful-end : (up : State) (start : Tables) (old new : View) → IsLawfulStart start → StartsAt up start old → new.upstream ≡ up → new.start ≡ start → IsLawfulOrSame old new
+    → IsLawfulRun up start new.seen
+lawful-end up start old new at begin over_it from h =
     elim h [
-      | inl same ↦ subst (IsLawfulRun empty_state start) (sym (ap (λ (v : View). v.seen) same ∙ begin.unseen)) at
-      | inr lawful ↦ subst (λ (s : Tables). IsLawfulRun empty_state s new.seen) from (subst (λ (u : State). IsLawfulRun u new.start new.seen) none lawful.is)
+      | inl same ↦ subst (IsLawfulRun up start) (sym (ap (λ (v : View). v.seen) same ∙ begin.unseen)) at
+      | inr lawful ↦ subst (λ (s : Tables). IsLawfulRun up s new.seen) from (subst (λ (u : State). IsLawfulRun u new.start new.seen) over_it lawful.is)
     ]
 
 -- ---- over a plain port that was opened
 
-starts : (state : NoUpstream → State) (t : Tables) (p : PlainValue NoUpstream) → IsOpenedAt t p → StartsAt p.start (port_view state p)
-starts state t p opened = record { no_upstream = ap (upstream_of state) opened.no_upstream; from = refl; unseen = opened.unseen; speaks = refl }
+module _ {U : Type 0} (state : U → State) (up : State) (t : Tables) (p : PlainValue U) (opened : IsOpenedAt state up t p) where
+  starts : StartsAt up p.start (port_view state p)
+  starts = record { upstream = opened.upstream; from = refl; unseen = opened.unseen; speaks = refl }
 
-pub no-upstream : (state : NoUpstream → State) (t : Tables) (p : PlainValue NoUpstream) → IsOpenedAt t p → (port_view state p).upstream ≡ empty_state
-no-upstream state t p opened = ap (upstream_of state) opened.no_upstream
+  pub unseen : (count : ℕ) → AreUnseen (port_view state p) count
+  unseen count = record { each = λ n below. record { speaks = refl; unseen = subst (AreOfOtherSessions n) (sym opened.unseen) tt } }
 
-pub unseen : (state : NoUpstream → State) (t : Tables) (p : PlainValue NoUpstream) (count : ℕ) → IsOpenedAt t p → AreUnseen (port_view state p) count
-unseen state t p count opened = record { each = λ n below. record { speaks = refl; unseen = subst (AreOfOtherSessions n) (sym opened.unseen) tt } }
+  module _ (named : HasOwnDigests up) (q : PlainValue U) (sessions : List Session) (lawful : IsLawfulOrSame (port_view state p) (port_view state q)) where
+    -- the run of a script that stopped, from the start of the port
+    pub ran-script : HaveStopped sessions (port_view state p) (port_view state q) → (q.start ≡ p.start) × RunsScript sessions up (primary t) q.start q.seen
+    ran-script h =
+        let end : View = record (port_view state q) { opened = p.opened } in
+        let on = went sessions up p.start (port_view state p) end starts h.adds.adds in
+        let is-lawful = lawful-end up p.start (port_view state p) (port_view state q) opened.lawful starts on.upstream on.from lawful in
+        let follow = follow-shown up (port_view state q) sessions h.calls on.upstream h.follow in (
+          on.from,
+          run-of sessions up (primary t) q.start h.calls q.seen named (ap primary on.from ∙ opened.state_is) (subst (λ (s : Tables). IsLawfulRun up s q.seen) (sym on.from) is-lawful) on.own follow,
+        )
 
--- the run of a script that stopped, from the start of the port
-pub ran-script :
-    (state : NoUpstream → State) (t : Tables) (p q : PlainValue NoUpstream) (sessions : List Session) → IsOpenedAt t p → HaveStopped sessions (port_view state p) (port_view state q)
-    → IsLawfulOrSame (port_view state p) (port_view state q) → (q.start ≡ p.start) × RunsScript sessions (primary t) q.start q.seen
-ran-script state t p q sessions opened h lawful =
-    let begin = starts state t p opened in
-    let end : View = record (port_view state q) { opened = p.opened } in
-    let on = went sessions p.start (port_view state p) end begin h.adds.adds in
-    let is-lawful = lawful-end p.start (port_view state p) (port_view state q) opened.lawful begin on.no_upstream on.from lawful in
-    let follow = follow-shown (port_view state q) sessions h.calls on.no_upstream h.follow in (
-      on.from,
-      run-of sessions (primary t) q.start h.calls q.seen (ap primary on.from ∙ opened.state) (subst (λ (s : Tables). IsLawfulRun empty_state s q.seen) (sym on.from) is-lawful) on.own follow,
-    )
-
--- and of one whose sessions were answered to their ends
-pub answered-script :
-    (state : NoUpstream → State) (t : Tables) (p q : PlainValue NoUpstream) (sessions : List Session) (replies : List SessionReplies) → IsOpenedAt t p
-    → HaveRun sessions replies (port_view state p) (port_view state q) → IsLawfulOrSame (port_view state p) (port_view state q)
-    → (q.start ≡ p.start) × AnswersScript sessions replies (primary t) q.start q.seen
-answered-script state t p q sessions replies opened h lawful =
-    let begin = starts state t p opened in
-    let on = went sessions p.start (port_view state p) (port_view state q) begin h.adds in
-    let is-lawful = lawful-end p.start (port_view state p) (port_view state q) opened.lawful begin on.no_upstream on.from lawful in
-    let follow = follow-shown (port_view state q) sessions h.calls on.no_upstream h.follow in (
-      on.from,
-      record {
-        runs = run-of sessions (primary t) q.start h.calls q.seen (ap primary on.from ∙ opened.state) (subst (λ (s : Tables). IsLawfulRun empty_state s q.seen) (sym on.from) is-lawful) on.own follow;
-        many = h.many;
-        each = λ n session own at its. answered-shown (port_view state q) h.calls n (history_lines session.lines) own.replies on.no_upstream (h.each n session own at its);
-      },
-    )
+    -- and of one whose sessions were answered to their ends
+    pub answered-script : (replies : List SessionReplies) → HaveRun sessions replies (port_view state p) (port_view state q)
+        → (q.start ≡ p.start) × AnswersScript sessions replies up (primary t) q.start q.seen
+    answered-script replies h =
+        let on = went sessions up p.start (port_view state p) (port_view state q) starts h.adds in
+        let is-lawful = lawful-end up p.start (port_view state p) (port_view state q) opened.lawful starts on.upstream on.from lawful in
+        let follow = follow-shown up (port_view state q) sessions h.calls on.upstream h.follow in (
+          on.from,
+          record {
+            runs = run-of sessions up (primary t) q.start h.calls q.seen named (ap primary on.from ∙ opened.state_is) (subst (λ (s : Tables). IsLawfulRun up s q.seen) (sym on.from) is-lawful) on.own follow;
+            many = h.many;
+            each = λ n session own at its. answered-shown up (port_view state q) h.calls n (history_lines session.lines) own.replies on.upstream (h.each n session own at its);
+          },
+        )

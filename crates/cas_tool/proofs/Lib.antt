@@ -3,6 +3,7 @@ pub mod WordLemmas
 pub mod OutputLemmas
 pub mod HistoryLemmas
 pub mod ReplyLemmas
+pub mod RotationLemmas
 pub mod ClosingLemmas
 pub mod NumberLemmas
 pub mod SplitLemmas

@@ -4,7 +4,7 @@ use Rattle.cas_model.specs.declared.call.Call.{Call}
 use Rattle.cas_model.specs.declared.call.Call.TheVariants.{Store, Load, Put, Get}
 use Rattle.cas_model.specs.declared.call.Reply.{Reply}
 use Rattle.cas_model.specs.declared.call.Reply.TheVariants.{Stored, Found, Missing, Kept, Hit, Miss, Dangling, Full}
-use Rattle.cas_model.specs.State.{State, empty_state}
+use Rattle.cas_model.specs.State.{State, over}
 use Rattle.cas_model.specs.Step.{Entry, IsLegal, Step}
 use Rattle.cas_model.specs.Tables.{Tables}
 use Rattle.cas_history.specs.declared.event.Event.{Event}
@@ -121,41 +121,41 @@ history-of (Put k v) = refl
 history-of (Get k) = refl
 
 pub one-reply :
-    (call : Call) (script_ : Script) (replies : Replies) (opened : State) (start : Tables) (seen : List Event) → script_ ≡ single_script call
-    → AnswersScript script_.sessions replies.sessions opened start seen → IsOneReply script_ replies
-one-reply call script_ replies opened start seen is h = record {
+    (call : Call) (script_ : Script) (replies : Replies) (up opened : State) (start : Tables) (seen : List Event) → script_ ≡ single_script call
+    → AnswersScript script_.sessions replies.sessions up opened start seen → IsOneReply script_ replies
+one-reply call script_ replies up opened start seen is h = record {
   line = call_line call;
   reply = one.entry.reply;
   script_is = ap (λ (x : Script). x.sessions) is;
   replies_are = own.1 ∙ ap (λ rs. (record { replies = rs }) ∷ []) (answered.are ∙ ap replies_of one.are);
-  may = may-in start.size opened (primary_of start seen) call (entries_in (shown start seen) a.runs.calls 0) one
-      (subst (λ es. IsLegal start.size opened es (primary_of start seen)) (sym (all-of-one (history empty_state start a.runs.calls seen) (entries-of 1 start a.runs.calls seen a.runs.own))) a.runs.legal);
+  may = may-in start.size (over opened up) (over (primary_of start seen) up) call (entries_in (shown up start seen) a.runs.calls 0) one
+      (subst (λ es. IsLegal start.size (over opened up) es (over (primary_of start seen) up)) (sym (all-of-one (history up start a.runs.calls seen) (entries-of 1 up start a.runs.calls seen a.runs.own))) a.runs.legal);
 } where
   session : Session
   session = session_of (call_line call ∷ [])
 
-  a : AnswersScript (session ∷ []) replies.sessions opened start seen
-  a = subst (λ ss. AnswersScript ss replies.sessions opened start seen) (ap (λ (x : Script). x.sessions) is) h
+  a : AnswersScript (session ∷ []) replies.sessions up opened start seen
+  a = subst (λ ss. AnswersScript ss replies.sessions up opened start seen) (ap (λ (x : Script). x.sessions) is) h
 
   own : (x : SessionReplies) × (replies.sessions ≡ x ∷ [])
   own = one-listed replies.sessions a.many
 
-  answered : IsAnswered (shown start seen) a.runs.calls 0 (history_lines session.lines) own.0.replies
+  answered : IsAnswered (shown up start seen) a.runs.calls 0 (history_lines session.lines) own.0.replies
   answered = a.each 0 session own.0 refl (ap (λ rs. slice_get rs 0) own.1)
 
-  follows : script.Follows (lines-of call) (entries_in (shown start seen) a.runs.calls 0)
-  follows = subst (λ ls. script.Follows ls (entries_in (shown start seen) a.runs.calls 0)) (history-of call) (a.runs.follow.each 0 session refl).follows
+  follows : script.Follows (lines-of call) (entries_in (shown up start seen) a.runs.calls 0)
+  follows = subst (λ ls. script.Follows ls (entries_in (shown up start seen) a.runs.calls 0)) (history-of call) (a.runs.follow.each 0 session refl).follows
 
-  complete : script.IsComplete (lines-of call) (entries_in (shown start seen) a.runs.calls 0)
-  complete = subst (λ ls. script.IsComplete ls (entries_in (shown start seen) a.runs.calls 0)) (history-of call) answered.complete
+  complete : script.IsComplete (lines-of call) (entries_in (shown up start seen) a.runs.calls 0)
+  complete = subst (λ ls. script.IsComplete ls (entries_in (shown up start seen) a.runs.calls 0)) (history-of call) answered.complete
 
-  one : IsAlone call (entries_in (shown start seen) a.runs.calls 0)
-  one = alone call (entries_in (shown start seen) a.runs.calls 0) follows complete
+  one : IsAlone call (entries_in (shown up start seen) a.runs.calls 0)
+  one = alone call (entries_in (shown up start seen) a.runs.calls 0) follows complete
 
 -- where one reply is reported, there is one
 pub has-one-reply :
-    (report_ : Report) (work : Work) (replies : Replies) (opened : State) (start : Tables) (seen : List Event) → IsOneCallFor report_ work
-    → AnswersScript work.script.sessions replies.sessions opened start seen → HasOneReply report_ work.script replies
-has-one-reply (report.Reply shows) work replies opened start seen one h = one-reply one.0 work.script replies opened start seen one.1 h
-has-one-reply report.Lines work replies opened start seen one h = tt
-has-one-reply (report.Summary rounds) work replies opened start seen one h = tt
+    (report_ : Report) (work : Work) (replies : Replies) (up opened : State) (start : Tables) (seen : List Event) → IsOneCallFor report_ work
+    → AnswersScript work.script.sessions replies.sessions up opened start seen → HasOneReply report_ work.script replies
+has-one-reply (report.Reply shows) work replies up opened start seen one h = one-reply one.0 work.script replies up opened start seen one.1 h
+has-one-reply report.Lines work replies up opened start seen one h = tt
+has-one-reply (report.Summary rounds) work replies up opened start seen one h = tt

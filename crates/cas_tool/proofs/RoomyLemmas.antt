@@ -3,13 +3,14 @@ use Rattle.std.proofs.Common.{◌≡◌, ◌⊎◌, inl, inr, ℕ, ◌≤◌, Li
 use Rattle.std.specs.Prelude.{String}
 use Rattle.std.specs.String.{string_bytes}
 use Rattle.std.specs.declared.alloc.Global.{Global}
+use Rattle.std.specs.declared.option.Option.{Option}
 use Rattle.std.specs.FinMap as fin
 use Rattle.cas_model.specs.declared.call.Reply.{Reply}
 use Rattle.cas_model.specs.declared.call.Reply.TheVariants as reply
 use Rattle.cas_model.specs.declared.digest.Digest.{Digest}
 use Rattle.cas_model.specs.declared.place.Full.{Full as Refusal}
 use Rattle.cas_model.specs.Primary.{primary}
-use Rattle.cas_model.specs.State.{State, empty_state}
+use Rattle.cas_model.specs.State.{State, over}
 use Rattle.cas_model.specs.Tables.{same_digest}
 use Rattle.cas_history.specs.Cost.{HasRoomFor}
 use Rattle.cas_history.specs.History.{history}
@@ -17,6 +18,7 @@ use Rattle.cas_outside.specs.Folder.{FolderView}
 use Rattle.cas_history.specs.Run.{primary_of}
 use Rattle.cell_port.specs.Plain.{EventsValue}
 use Rattle.frozen_store.specs.Seen.{FrozenSeen}
+use Rattle.generations.specs.Upstream.{upstream_state}
 use Rattle.sessions.specs.declared.replies.Replies.{Replies}
 use Rattle.sessions.specs.declared.replies.SessionReplies.{SessionReplies}
 use Rattle.sessions.specs.declared.script.Line.{Line}
@@ -45,29 +47,34 @@ use Rattle.cas_tool.proofs.RoomLemmas.{AreNotFull, none-full, none-refused, sess
 
 -- ---- a run
 
-unrefused : (sessions : List Session) (opened : State) (events : EventsValue) → RunsScript sessions opened events.start events.seen
-    → HasRoomFor empty_state (calls_of_sessions sessions) events.start.counter events.start.size → IsUnrefused events
-unrefused sessions opened events runs room =
-    let claims = none-refused (shown events.start events.seen) sessions runs.calls events.start.size opened (primary_of events.start events.seen) runs.follow runs.lawful runs.own
-    (all-conduct events.start sessions runs.calls events.seen runs.own runs.follow) runs.legal room in
-    record { claims = claims; replies = λ calls. none-full empty_state events.start calls events.seen claims }
+unrefused : (sessions : List Session) (up opened : State) (events : EventsValue) → RunsScript sessions up opened events.start events.seen
+    → HasRoomFor up (calls_of_sessions sessions) events.start.counter events.start.size → IsUnrefused up events
+unrefused sessions up opened events runs room =
+    let claims = none-refused (shown up events.start events.seen) sessions runs.calls events.start.size (over opened up) (over (primary_of events.start events.seen) up) runs.follow runs.lawful runs.own
+    (all-conduct up events.start sessions runs.calls events.seen runs.own runs.follow) runs.legal room in
+    record { claims = claims; replies = λ calls. none-full up events.start calls events.seen claims }
 
 -- the room for the start of a run is that of the opened words, or more
-start-room : (opened : FrozenSeen) (script : Script) (events : EventsValue) → events.start.size ≡ opened.tables.size → events.start.counter ≤ opened.tables.counter
-    → HasRoom (run_of opened script events) → HasRoomFor empty_state (calls_of_sessions script.sessions) events.start.counter events.start.size
-start-room opened script events size counter room words within = let fits = room words within in omega (arith, fits, size, counter)
+start-room :
+    (opened : FrozenSeen) (up : Option FrozenSeen) (script : Script) (events : EventsValue) → events.start.size ≡ opened.tables.size → events.start.counter ≤ opened.tables.counter
+    → HasRoom (run_of opened up script events) → HasRoomFor (upstream_state up) (calls_of_sessions script.sessions) events.start.counter events.start.size
+start-room opened up script events size counter room words within = let fits = room words within in omega (arith, fits, size, counter)
 
-ran-unrefused : (opened : FrozenSeen) (script : Script) (front : Front) (ran : Ran opened script front) → HasRoom (run_of opened script ran.events) → IsUnrefused ran.events
-ran-unrefused opened script front ran room =
-    unrefused script.sessions (primary opened.tables) ran.events ran.runs (start-room opened script ran.events ran.size ran.counter room)
+ran-unrefused :
+    (opened : FrozenSeen) (up : Option FrozenSeen) (script : Script) (front : Front) (ran : Ran opened up script front) → HasRoom (run_of opened up script ran.events)
+    → IsUnrefused (upstream_state up) ran.events
+ran-unrefused opened up script front ran room =
+    unrefused script.sessions (upstream_state up) (primary opened.tables) ran.events ran.runs (start-room opened up script ran.events ran.size ran.counter room)
 
 -- ---- the run that the front shows
 
-run-unrefused : (old : FolderView) (front : Front) → NotReached front ⊎ HasRun old front → (run : Run) → front_run front ≡ Some run → HasRoom run → IsUnrefused run.events
+run-unrefused :
+    (old : FolderView) (front : Front) → NotReached front ⊎ HasRun old front → (run : Run) → front_run front ≡ Some run → HasRoom run
+    → IsUnrefused (upstream_state run.up) run.events
 run-unrefused old front (inl none) run is room = absurd (let two : None ≡ Some run = sym none ∙ is in cc two)
 run-unrefused old front (inr has) run is room =
-    let same : run_of has.opened.primary has.script has.ran.events ≡ run = cc (sym has.ran.is ∙ is) in
-    subst (λ (r : Run). HasRoom r → IsUnrefused r.events) same (ran-unrefused has.opened.primary has.script front has.ran) room
+    let same : run_of has.opened.primary has.opened.up has.script has.ran.events ≡ run = cc (sym has.ran.is ∙ is) in
+    subst (λ (r : Run). HasRoom r → IsUnrefused (upstream_state r.up) r.events) same (ran-unrefused has.opened.primary has.opened.up has.script front has.ran) room
 
 -- ---- the answer
 
@@ -86,19 +93,19 @@ not-full (line.Get k) given full h is = cc is
 not-full (line.Act k refs bytes) given full h is = cc is
 
 reported-short :
-    (report_ : Report) (opened : FrozenSeen) (script : Script) (replies : Replies) (objects actions : ℕ) (front : Front) (full : Refusal) (answered : Answered opened script replies front)
-    → Reports report_ script replies objects actions (Denied (Full full)) → HasRoom (run_of opened script answered.events) → ⊥
-reported-short (report.Reply shows) opened script replies objects actions front full answered h room =
+    (report_ : Report) (opened : FrozenSeen) (up : Option FrozenSeen) (script : Script) (replies : Replies) (objects actions : ℕ) (front : Front) (full : Refusal)
+    (answered : Answered opened up script replies front) → Reports report_ script replies objects actions (Denied (Full full)) → HasRoom (run_of opened up script answered.events) → ⊥
+reported-short (report.Reply shows) opened up script replies objects actions front full answered h room =
     let events = answered.events in
     let answers = answered.answers in
-    let un = ran-unrefused opened script front (answered-ran opened script replies front answered) room in
+    let un = ran-unrefused opened up script front (answered-ran opened up script replies front answered) room in
     let session : Session = session_of (h.line ∷ []) in
     let own : SessionReplies = record { replies = h.reply ∷ [] } in
     let are = (answers.each 0 session own (ap (λ (xs : List Session). slice_get xs 0) h.script_is) (ap (λ (xs : List SessionReplies). slice_get xs 0) h.replies_are)).are in
-    let fit = session-replies-fit 0 (history empty_state events.start answers.runs.calls events.seen) (un.replies answers.runs.calls) in
+    let fit = session-replies-fit 0 (history (upstream_state up) events.start answers.runs.calls events.seen) (un.replies answers.runs.calls) in
     not-full h.line h.reply full (subst AreNotFull (sym are) fit).0 h.gives
-reported-short report.Lines opened script replies objects actions front full answered h room = h
-reported-short (report.Summary rounds) opened script replies objects actions front full answered h room = h
+reported-short report.Lines opened up script replies objects actions front full answered h room = h
+reported-short (report.Summary rounds) opened up script replies objects actions front full answered h room = h
 
 prepares-short : (words : List (String Global)) (before after : Outside) (front : Front) (full : Refusal) → Prepares words before after front (Denied (Full full)) → IsShort front
 prepares-short words before after front full h = elim h.is [
@@ -106,9 +113,9 @@ prepares-short words before after front full h = elim h.is [
       let run = task.prepares in
       let closed = closed_of run.has.answered.events in
       record {
-        run = run_of run.opened.primary task.work.script run.has.answered.events;
+        run = run_of run.opened.primary run.opened.up task.work.script run.has.answered.events;
         is = run.has.answered.is;
-        short = reported-short task.work.report run.opened.primary task.work.script run.has.replies (fin.len closed.objects) (fin.len closed.cache) front full run.has.answered
+        short = reported-short task.work.report run.opened.primary run.opened.up task.work.script run.has.replies (fin.len closed.objects) (fin.len closed.cache) front full run.has.answered
             (subst (λ (o : Output). Reports task.work.report task.work.script run.has.replies (fin.len closed.objects) (fin.len closed.cache) o) (sym run.is) run.has.is.reports);
       }
   | inr upkeep ↦ absurd (upkeep-text h.request.task (string_bytes h.dir) (first_size h.request.options) before.folder after.folder (Full full) upkeep.prepares)

@@ -1,5 +1,5 @@
 -- Which answers come of what, and what words that were read ask for.
-use Rattle.std.proofs.Common.{IfOk, IfErr, Ok, get_or, ◌≡◌, ℕ, ◌<◌, ◌≤◌, inl, inr, List, [], ◌∷◌, length, Bool, true, false, cond, Some, None, refl, ap, sym, subst, Err, arith}
+use Rattle.std.proofs.Common.{IfOk, IfErr, Ok, get_or, ◌≡◌, ℕ, ◌<◌, ◌≤◌, inl, inr, List, [], ◌∷◌, length, Bool, true, false, cond, Some, None, refl, ap, sym, subst, ◌∙◌, Err, arith}
 use Rattle.std.specs.Prelude.{String, codes, unwrap_or}
 use Rattle.std.specs.String.{string_bytes}
 use Rattle.std.specs.declared.alloc.Global.{Global}
@@ -25,6 +25,7 @@ use Rattle.sessions.specs.declared.script.Script.{Script}
 use Rattle.cas_tool.specs.declared.answer.Answer.{Answer}
 use Rattle.cas_tool.specs.declared.answer.Answer.TheVariants.{Done, Missing, Usage, ReadFault, WriteFault, FolderFault, Damaged, Full, Poisoned, Dangling, BadScript, Held, TooLarge, NoMemory}
 use Rattle.cas_tool.specs.declared.command.Options.{Options}
+use Rattle.cas_tool.specs.declared.closing.Images.{Images}
 use Rattle.cas_tool.specs.declared.command.Request.{Request}
 use Rattle.cas_tool.specs.declared.command.Setting.TheVariants.{Size}
 use Rattle.cas_tool.specs.declared.command.Task.{Task}
@@ -43,8 +44,9 @@ use Rattle.cas_tool.specs.Made.{IsOneCall, IsOneCallFor}
 use Rattle.cas_tool.specs.Opening.{OpenCause, OpeningStops}
 use Rattle.cas_tool.specs.Output.{Reports, call_of, refusal_of}
 use Rattle.cas_tool.specs.Pruning.{EnterCause, PruneCause}
-use Rattle.cas_tool.specs.Run.{Ask, Because, Ends, Outside, Prepares, Refuses, RunPrepares, RunRefuses, SavingStops, UpkeepPrepares, UpkeepRefuses, WordsRefused, World, save_answer}
-use Rattle.cas_tool.specs.Words.{BeginWith, HaveOptions, IsGiven, IsNamedBy, dir_of, first_size, is_word, task_of, values_of, verb_of}
+use Rattle.cas_tool.specs.Rotation.{IsSizeFor}
+use Rattle.cas_tool.specs.Run.{Ask, Because, Ends, Outside, Prepares, Refuses, RunPrepares, RunRefuses, IsPut, PutStops, SavingStops, UpkeepPrepares, UpkeepRefuses, WordsRefused, World, save_answer}
+use Rattle.cas_tool.specs.Words.{BeginWith, IsGiven, IsNamedBy, dir_of, is_word, task_of, verb_of}
 use Rattle.cas_tool.specs.Work.{IsTaskWithin, IsWork, Source, TaskStops}
 
 -- ---- answers of a reply
@@ -112,12 +114,12 @@ reports-denied report.Lines script replies objects actions given h = absurd h
 reports-denied (report.Summary rounds) script replies objects actions given h = absurd h
 
 -- a task without a script gives a text
-pub upkeep-text : (task : Task) (dir : List ℕ) (size : ℕ) (old new : FolderView) (given : Answer) → UpkeepPrepares task dir size old new (Denied given) → ⊥
-upkeep-text Validate dir size old new given h = h.is
-upkeep-text Prune dir size old new given h = h.is
-upkeep-text (Once command) dir size old new given h = h
-upkeep-text Batch dir size old new given h = h
-upkeep-text (Workload rounds) dir size old new given h = h
+pub upkeep-text : (task : Task) (dir : List ℕ) (options : Options) (old new : FolderView) (given : Answer) → UpkeepPrepares task dir options old new (Denied given) → ⊥
+upkeep-text Validate dir options old new given h = h.is
+upkeep-text Prune dir options old new given h = h.is
+upkeep-text (Once command) dir options old new given h = h
+upkeep-text Batch dir options old new given h = h
+upkeep-text (Workload rounds) dir options old new given h = h
 
 pub prepares-denied : (words : List (String Global)) (before after : Outside) (front : Front) (given : Answer) → Prepares words before after front (Denied given) → IsOfReply given
 prepares-denied words before after front given h = elim h.is [
@@ -126,7 +128,7 @@ prepares-denied words before after front given h = elim h.is [
       let closed = closed_of run.has.answered.events in
       reports-denied task.work.report task.work.script run.has.replies (fin.len closed.objects) (fin.len closed.cache) given
       (subst (λ (o : Output). Reports task.work.report task.work.script run.has.replies (fin.len closed.objects) (fin.len closed.cache) o) (sym run.is) run.has.is.reports)
-  | inr upkeep ↦ absurd (upkeep-text h.request.task (string_bytes h.dir) (first_size h.request.options) before.folder after.folder given upkeep.prepares)
+  | inr upkeep ↦ absurd (upkeep-text h.request.task (string_bytes h.dir) h.request.options before.folder after.folder given upkeep.prepares)
 ]
 
 -- ---- answers of what stops
@@ -173,18 +175,20 @@ never-save : (error : SaveError) (given : Answer) → IsEnd given → given ≡ 
 never-save save.FolderFault given end h = never (λ (a : Answer). a ≡ FolderFault) (λ x. cc x) (λ x. cc x) given end h
 never-save save.Memory given end h = never-memory given end h
 
-never-upkeep : (task : Task) (dir : List ℕ) (size : ℕ) (old new : FolderView) (given : Answer) → IsEnd given → UpkeepRefuses task dir size old new given → ⊥
-never-upkeep Validate dir size old new given end h = elim h [
+never-upkeep : (task : Task) (dir : List ℕ) (options : Options) (old new : FolderView) (given : Answer) → IsEnd given → UpkeepRefuses task dir options old new given → ⊥
+never-upkeep Validate dir options old new given end h = elim h [
   | inl opening ↦ never-open dir old new given end opening
   | inr checking ↦ never-memory given end checking.memory
 ]
-never-upkeep Prune dir size old new given end h = elim h [
+never-upkeep Prune dir options old new given end h = elim h [
   | inl entering ↦ never (EnterCause old new) (λ x. x) (λ x. x) given end entering.cause
   | inr pruning ↦ never (PruneCause pruning.between new) (λ x. x) (λ x. x) given end pruning.cause
 ]
-never-upkeep (Once command) dir size old new given end h = h
-never-upkeep Batch dir size old new given end h = h
-never-upkeep (Workload rounds) dir size old new given end h = h
+never-upkeep (Once command) dir options old new given end h = h
+never-upkeep Batch dir options old new given end h = h
+never-upkeep (Workload rounds) dir options old new given end h = h
+never-saving : (number : ℕ) (images : Images) (old new : FolderView) (given : Answer) → IsEnd given → SavingStops number images old new given → ⊥
+never-saving number images old new given end h = elim h [ inl saving ↦ never-save saving.error given end saving.is | inr rotating ↦ never-save rotating.stops.error given end rotating.stops.is ]
 
 never-refused : (words : List (String Global)) (before after : Outside) (front : Front) (given : Answer) → IsEnd given → Refuses words before after front given → ⊥
 never-refused words before after front given end h = elim h [
@@ -196,10 +200,10 @@ never-refused words before after front given end h = elim h [
         | inl opening ↦ never-open _ before.folder after.folder given end opening.stops
         | inr later ↦ elim later [
           | inl running ↦ never-memory given end running.memory
-          | inr saving ↦ never-save saving.stops.error given end saving.stops.is
+          | inr saving ↦ never-saving _ _ _ _ given end saving.stops
         ]
       ]
-      | inr upkeep ↦ never-upkeep stop.request.task (string_bytes stop.dir) (first_size stop.request.options) before.folder after.folder given end upkeep.refuses
+      | inr upkeep ↦ never-upkeep stop.request.task (string_bytes stop.dir) stop.request.options before.folder after.folder given end upkeep.refuses
     ]
   ]
 ]
@@ -242,18 +246,20 @@ of-save : (error : SaveError) (given : Answer) → IsOfReply given → given ≡
 of-save save.FolderFault given of h = never-of (λ (a : Answer). a ≡ FolderFault) (λ d x. cc x) (λ f x. cc x) (λ d e x. cc x) (λ i d x. cc x) given of h
 of-save save.Memory given of h = of-memory given of h
 
-of-upkeep : (task : Task) (dir : List ℕ) (size : ℕ) (old new : FolderView) (given : Answer) → IsOfReply given → UpkeepRefuses task dir size old new given → ⊥
-of-upkeep Validate dir size old new given of h = elim h [
+of-upkeep : (task : Task) (dir : List ℕ) (options : Options) (old new : FolderView) (given : Answer) → IsOfReply given → UpkeepRefuses task dir options old new given → ⊥
+of-upkeep Validate dir options old new given of h = elim h [
   | inl opening ↦ of-open old new given of opening.cause
   | inr checking ↦ of-memory given of checking.memory
 ]
-of-upkeep Prune dir size old new given of h = elim h [
+of-upkeep Prune dir options old new given of h = elim h [
   | inl entering ↦ never-of (EnterCause old new) (λ d x. x) (λ f x. x) (λ d e x. x) (λ i d x. x) given of entering.cause
   | inr pruning ↦ never-of (PruneCause pruning.between new) (λ d x. x) (λ f x. x) (λ d e x. x) (λ i d x. x) given of pruning.cause
 ]
-of-upkeep (Once command) dir size old new given of h = h
-of-upkeep Batch dir size old new given of h = h
-of-upkeep (Workload rounds) dir size old new given of h = h
+of-upkeep (Once command) dir options old new given of h = h
+of-upkeep Batch dir options old new given of h = h
+of-upkeep (Workload rounds) dir options old new given of h = h
+of-saving : (number : ℕ) (images : Images) (old new : FolderView) (given : Answer) → IsOfReply given → SavingStops number images old new given → ⊥
+of-saving number images old new given of h = elim h [ inl saving ↦ of-save saving.error given of saving.is | inr rotating ↦ of-save rotating.stops.error given of rotating.stops.is ]
 
 pub of-refused : (words : List (String Global)) (before after : Outside) (front : Front) (given : Answer) → IsOfReply given → Refuses words before after front given → ⊥
 of-refused words before after front given of h = elim h [
@@ -265,10 +271,10 @@ of-refused words before after front given of h = elim h [
         | inl opening ↦ of-open before.folder after.folder given of opening.stops.cause
         | inr later ↦ elim later [
           | inl running ↦ of-memory given of running.memory
-          | inr saving ↦ of-save saving.stops.error given of saving.stops.is
+          | inr saving ↦ of-saving _ _ _ _ given of saving.stops
         ]
       ]
-      | inr upkeep ↦ of-upkeep stop.request.task (string_bytes stop.dir) (first_size stop.request.options) before.folder after.folder given of upkeep.refuses
+      | inr upkeep ↦ of-upkeep stop.request.task (string_bytes stop.dir) stop.request.options before.folder after.folder given of upkeep.refuses
     ]
   ]
 ]
@@ -391,27 +397,33 @@ one-call Validate before after work h = absurd h
 one-call Prune before after work h = absurd h
 
 -- an image that was due was not saved
-pub saving-stops :
-    (number : ℕ) (due : Option (Vec ℕ Global)) (image : Vec ℕ Global) (bytes : List ℕ) (old new : FolderView) (result : Result (Unit {0}) SaveError) (error : SaveError) → due ≡ Some image
-    → bytes ≡ image.items → Saves (generation_name number) bytes old new result → result ≡ Err error → SavingStops number due old new (save_answer error)
-saving-stops number due image bytes old new result error is same saves failed = record {
+pub put-stops :
+    (number : ℕ) (due : Option (Vec ℕ Global)) (image : Vec ℕ Global) (bytes : List ℕ) (old new : FolderView) (result : Result (Unit {0}) SaveError) (error : SaveError) (given : Answer)
+    → due ≡ Some image → bytes ≡ image.items → Saves (generation_name number) bytes old new result → result ≡ Err error → given ≡ save_answer error → PutStops number due old new given
+put-stops number due image bytes old new result error given is same saves failed answer = record {
   image = image;
   is_due = is;
   error = error;
   saves = subst (Saves (generation_name number) image.items old new) failed (subst (λ (bs : List ℕ). Saves (generation_name number) bs old new result) same saves);
-  is = refl;
+  is = answer;
 }
 
--- the size that is set lies within its limits
-size-given : (values : List (String Global)) (size : Option ℕ) → IsGiven 4096 67108864 values size → (4096 ≤ unwrap_or size 4194304) × (unwrap_or size 4194304 ≤ 67108864)
-size-given [] None h = (omega arith, omega arith)
-size-given [] (Some number) h = cc h
-size-given (value ∷ []) None h = absurd h
-size-given (value ∷ []) (Some number) h = (h.low, h.high)
-size-given (value ∷ other ∷ values) size h = absurd h
+-- the lock stays
+pub put-locked : (number : ℕ) (due : Option (Vec ℕ Global)) (old new : FolderView) → IsPut number due old new → old.locked ≡ true → new.locked ≡ true
+put-locked number None old new put locked = ap (λ (v : FolderView). v.locked) put ∙ locked
+put-locked number (Some image) old new put locked = ap (λ (v : FolderView). v.locked) put.is ∙ locked
 
-pub size-within : (words : List (String Global)) (options : Options) → HaveOptions words options → (4096 ≤ first_size options) × (first_size options ≤ 67108864)
-size-within words options have = size-given (values_of Size words) options.size have.size
+-- the size that is given lies within its limits, and so does that of a first generation
+pub size-within : (values : List (String Global)) (size : Option ℕ) → IsGiven 4096 67108864 values size → IsSizeFor size
+size-within [] None h = tt
+size-within [] (Some number) h = cc h
+size-within (value ∷ []) None h = absurd h
+size-within (value ∷ []) (Some number) h = (h.low, h.high)
+size-within (value ∷ other ∷ values) size h = absurd h
+
+pub first-within : (size : Option ℕ) → IsSizeFor size → (4096 ≤ unwrap_or size 4194304) × (unwrap_or size 4194304 ≤ 67108864)
+first-within None h = (omega arith, omega arith)
+first-within (Some number) h = h
 
 -- ---- the whole run
 
@@ -442,10 +454,10 @@ dir-named [] dir other long is = absurd (omega (arith, long))
 dir-named (cas ∷ []) dir other long is = absurd (omega (arith, long))
 dir-named (cas ∷ own ∷ words) dir other long is = ap Some (sym is)
 
-module _ (words : List (String Global)) (request : Request) (dir : String Global) (path : List ℕ) (size : ℕ) (ask : Ask words request dir) (is : path ≡ string_bytes dir) (size_is : size ≡ first_size request.options) where
+module _ (words : List (String Global)) (request : Request) (dir : String Global) (path : List ℕ) (ask : Ask words request dir) (is : path ≡ string_bytes dir) where
   pub upkeep-prepares :
       (task : Task) (before : Outside) (folder : FolderView) (front : Front) (result : Result Output Answer) → request.task ≡ task → NotReached front
-      → IfOk result (λ output. UpkeepPrepares task path size before.folder folder output)
+      → IfOk result (λ output. UpkeepPrepares task path request.options before.folder folder output)
       → IfOk result (λ output. Prepares words before (record { source = before.source; folder = folder }) front output)
   upkeep-prepares task before folder front (Err given) task_is none h = tt
   upkeep-prepares task before folder front (Ok output) task_is none h = record {
@@ -456,15 +468,14 @@ module _ (words : List (String Global)) (request : Request) (dir : String Global
       unread = refl;
       no_run = none;
       prepares =
-          subst (λ (bs : List ℕ). UpkeepPrepares request.task bs (first_size request.options) before.folder folder output) is
-          (subst (λ (n : ℕ). UpkeepPrepares request.task path n before.folder folder output) size_is
-          (subst (λ (t : Task). UpkeepPrepares t path size before.folder folder output) (sym task_is) h));
+          subst (λ (bs : List ℕ). UpkeepPrepares request.task bs request.options before.folder folder output) is
+          (subst (λ (t : Task). UpkeepPrepares t path request.options before.folder folder output) (sym task_is) h);
     });
   }
 
   pub upkeep-refuses :
       (task : Task) (before : Outside) (folder : FolderView) (front : Front) (result : Result Output Answer) → request.task ≡ task → NotReached front
-      → IfErr result (λ answer. UpkeepRefuses task path size before.folder folder answer)
+      → IfErr result (λ answer. UpkeepRefuses task path request.options before.folder folder answer)
       → IfErr result (λ answer. Refuses words before (record { source = before.source; folder = folder }) front answer)
   upkeep-refuses task before folder front (Ok output) task_is none h = tt
   upkeep-refuses task before folder front (Err given) task_is none h = inr (record {
@@ -475,32 +486,31 @@ module _ (words : List (String Global)) (request : Request) (dir : String Global
       unread = refl;
       no_run = none;
       refuses =
-          subst (λ (bs : List ℕ). UpkeepRefuses request.task bs (first_size request.options) before.folder folder given) is
-          (subst (λ (n : ℕ). UpkeepRefuses request.task path n before.folder folder given) size_is
-          (subst (λ (t : Task). UpkeepRefuses t path size before.folder folder given) (sym task_is) h));
+          subst (λ (bs : List ℕ). UpkeepRefuses request.task bs request.options before.folder folder given) is
+          (subst (λ (t : Task). UpkeepRefuses t path request.options before.folder folder given) (sym task_is) h);
     }));
   })
 
   pub task-prepares :
       (before after : Outside) (front : Front) (work : Work) (result : Result Output Answer) → IsWork request.task before.source after.source work
-      → IfOk result (λ output. RunPrepares path size work before.folder after.folder front output) → IfOk result (λ output. Prepares words before after front output)
+      → IfOk result (λ output. RunPrepares path request.options work before.folder after.folder front output) → IfOk result (λ output. Prepares words before after front output)
   task-prepares before after front work (Err given) is_work h = tt
   task-prepares before after front work (Ok output) is_work h = record {
     request = request;
     dir = dir;
     ask = ask;
-    is = inl (record { work = work; is_work = is_work; prepares = subst (λ (bs : List ℕ). RunPrepares bs (first_size request.options) work before.folder after.folder front output) is (subst (λ (n : ℕ). RunPrepares path n work before.folder after.folder front output) size_is h) });
+    is = inl (record { work = work; is_work = is_work; prepares = subst (λ (bs : List ℕ). RunPrepares bs request.options work before.folder after.folder front output) is h });
   }
 
   pub task-refuses :
       (before after : Outside) (front : Front) (work : Work) (result : Result Output Answer) → IsWork request.task before.source after.source work
-      → IfErr result (λ answer. RunRefuses path size work before.folder after.folder front answer) → IfErr result (λ answer. Refuses words before after front answer)
+      → IfErr result (λ answer. RunRefuses path request.options work before.folder after.folder front answer) → IfErr result (λ answer. Refuses words before after front answer)
   task-refuses before after front work (Ok output) is_work h = tt
   task-refuses before after front work (Err given) is_work h = inr (record {
     request = request;
     dir = dir;
     ask = ask;
-    is = inr (inl (record { work = work; is_work = is_work; refuses = subst (λ (bs : List ℕ). RunRefuses bs (first_size request.options) work before.folder after.folder front given) is (subst (λ (n : ℕ). RunRefuses path n work before.folder after.folder front given) size_is h) }));
+    is = inr (inl (record { work = work; is_work = is_work; refuses = subst (λ (bs : List ℕ). RunRefuses bs request.options work before.folder after.folder front given) is h }));
   })
 
   pub work-stops :

@@ -3,6 +3,7 @@ use Rattle.std.proofs.Common.{◌⊎◌, inl, inr, ℕ, List}
 use Rattle.std.specs.Prelude.{String}
 use Rattle.std.specs.String.{string_bytes}
 use Rattle.std.specs.declared.alloc.Global.{Global}
+use Rattle.std.specs.declared.option.Option.{Option}
 use Rattle.cas_outside.specs.Folder.{FolderView}
 use Rattle.frozen_store.specs.Seen.{FrozenSeen}
 use Rattle.generations.specs.declared.opening.Opened.{Opened}
@@ -19,8 +20,8 @@ use Rattle.cas_tool.specs.Opening.{HasOpened}
 use Rattle.cas_tool.specs.Run.{Because, Outside, Prepares, Refuses, World}
 use Rattle.cas_tool.specs.Words.{first_size}
 
-abbrev pub answered-ran : (opened : FrozenSeen) (script : Script) (replies : Replies) (front : Front) → Answered opened script replies front → Ran opened script front
-answered-ran opened script replies front h = record { events = h.events; is = h.is; size = h.size; counter = h.counter; runs = h.answers.runs }
+abbrev pub answered-ran : (opened : FrozenSeen) (up : Option FrozenSeen) (script : Script) (replies : Replies) (front : Front) → Answered opened up script replies front → Ran opened up script front
+answered-ran opened up script replies front h = record { events = h.events; is = h.is; size = h.size; counter = h.counter; runs = h.answers.runs }
 
 -- the front shows a run from what was opened of this folder
 pub record HasRun (old : FolderView) (front : Front) : Type 0 where
@@ -29,13 +30,13 @@ pub record HasRun (old : FolderView) (front : Front) : Type 0 where
   pub opened : Opened
   pub is : IsOpened size old between opened
   pub script : Script
-  pub ran : Ran opened.primary script front
+  pub ran : Ran opened.primary opened.up script front
 
 answered-run :
     (dir : List ℕ) (size : ℕ) (old between : FolderView) (opened : Opened) (script : Script) (replies : Replies) (front : Front) → HasOpened dir size old between opened
-    → Answered opened.primary script replies front → HasRun old front
+    → Answered opened.primary opened.up script replies front → HasRun old front
 answered-run dir size old between opened script replies front opens h =
-    record { size = size; between = between; opened = opened; is = opens.is; script = script; ran = answered-ran opened.primary script replies front h }
+    record { size = size; between = between; opened = opened; is = opens.is; script = script; ran = answered-ran opened.primary opened.up script replies front h }
 
 refuses-run : (words : List (String Global)) (before after : Outside) (front : Front) (given : Answer) → Refuses words before after front given → NotReached front ⊎ HasRun before.folder front
 refuses-run words before after front given h = elim h [

@@ -1,12 +1,10 @@
 -- What a run answers where nothing fails.
-use Rattle.std.specs.Prelude.{◌≡◌, ℕ, ◌⊎◌, List, None, Some, String}
+use Rattle.std.specs.Prelude.{◌⊎◌, List, None, Some, String}
 use Rattle.std.specs.declared.alloc.Global.{Global}
 use Rattle.std.specs.declared.option.Option.{Option}
-use Rattle.cas_model.specs.State.{State}
 use Rattle.cas_outside.specs.Causes.{Rose}
 use Rattle.cas_outside.specs.Folder.{Files}
-use Rattle.generations.specs.Chain.{IsChain}
-use Rattle.generations.specs.FolderState.{HasState}
+use Rattle.generations.specs.FolderState.{Readable}
 use Rattle.cas_tool.specs.declared.answer.Answer.{Answer}
 use Rattle.cas_tool.specs.declared.answer.Answer.TheVariants.{Done, Missing, Full, Poisoned, Dangling, BadScript, TooLarge, NoMemory}
 use Rattle.cas_tool.specs.declared.answer.Large.TheVariants.{Data, Script}
@@ -28,8 +26,7 @@ pub record IsQuiet (before after : World) : Type 0 where
 -- the files are told, and those of the primary and the upstream, where they are there, are images of words that stand for states
 abbrev pub IsReadable : Option Files → Type 0
 IsReadable None = ⊥
-IsReadable (Some files) =
-    (primary upstream : Option ℕ) (number : ℕ) → IsChain files primary upstream → (primary ≡ Some number) ⊎ (upstream ≡ Some number) → (state : State) × HasState files number state
+IsReadable (Some files) = Readable files
 
 -- what the one reply of a command's call may give in place of a text: `Full`, where there is no room for the call, and else as the call asks
 abbrev pub MayRefuse : Command → Answer → Type 0

@@ -1,41 +1,38 @@
--- A run's one history goes from the state of the folder's primary to that of the primary that is saved.
-use Rattle.std.specs.Prelude.{◌≡◌, ℕ, None, Some}
+-- A run's one history goes from the state of the folder, its primary's over its upstream's, to that of the folder at the end.
+use Rattle.std.specs.Prelude.{◌≡◌, ◌⊎◌, None, Some}
 use Rattle.std.specs.declared.option.Option.{Option}
 use Rattle.cas_model.specs.State.{State, empty_state}
-use Rattle.cas_model.specs.Step.{IsLegal}
-use Rattle.cas_history.specs.History.{history}
 use Rattle.cas_outside.specs.Folder.{Files}
-use Rattle.generations.specs.Chain.{HasGeneration, IsHighestBelow}
-use Rattle.generations.specs.FolderState.{IsStateOf}
+use Rattle.generations.specs.FolderState.{HasChain}
 use Rattle.sessions.specs.declared.replies.Replies.{Replies}
 use Rattle.cas_tool.specs.declared.answer.Answer.{Answer}
 use Rattle.cas_tool.specs.declared.answer.Answer.TheVariants.{Done, Missing, WriteFault, Full, Poisoned, Dangling}
 use Rattle.cas_tool.specs.declared.front.Front.{Front}
 use Rattle.cas_tool.specs.declared.front.Run.{Run}
-use Rattle.cas_tool.specs.Front.{front_run}
+use Rattle.cas_tool.specs.Front.{closed_of, front_run}
 use Rattle.cas_tool.specs.History.{AnswersScript, RunsScript}
 
--- the state of the highest generation among the files, the empty one where there is none
-pub record IsPrimaryState (files : Files) (state : State) : Type 0 where
-  pub number : Option ℕ
-  pub highest : IsHighestBelow (HasGeneration files) 4294967296 number
-  pub is : IsStateOf files number state
-
--- the run's history is legal from the state of the primary among these files
+-- the run's history is legal from the state of these files: that of their primary, over that of their upstream
 pub record RunsFrom (old : Files) (run : Run) : Type 0 where
   pub opened : State
-  pub from : IsPrimaryState old opened
-  pub runs : RunsScript run.script.sessions opened run.events.start run.events.seen
+  pub upstream : State
+  pub from : HasChain old opened upstream
+  pub runs : RunsScript run.script.sessions upstream opened run.events.start run.events.seen
 
--- it is legal from there to the state of the primary among those, and each session was answered to its end
+-- the files have this state as their primary's over the same upstream; or, where a new generation was put above it, as their upstream's below an
+-- empty primary
+abbrev pub EndsWith : Files → State → State → Type 0
+EndsWith new upstream closed = HasChain new closed upstream ⊎ HasChain new empty_state closed
+
+-- each session was answered to its end, and the history, which is legal from the state of the files, ends with that of the primary which the files
+-- then have
 pub record RunsTo (old new : Files) (run : Run) : Type 0 where
   pub opened : State
-  pub saved : State
-  pub from : IsPrimaryState old opened
-  pub to : IsPrimaryState new saved
+  pub upstream : State
+  pub from : HasChain old opened upstream
   pub replies : Replies
-  pub answers : AnswersScript run.script.sessions replies.sessions opened run.events.start run.events.seen
-  pub legal : IsLegal run.events.start.size opened (history empty_state run.events.start answers.runs.calls run.events.seen) saved
+  pub answers : AnswersScript run.script.sessions replies.sessions upstream opened run.events.start run.events.seen
+  pub to : EndsWith new upstream (closed_of run.events)
 
 -- the files at the end are told, and the run was saved in them
 abbrev pub RunsToTold : Files → Option Files → Run → Type 0

@@ -8,6 +8,7 @@ pub mod History
 pub mod Opened
 pub mod Opening
 pub mod Output
+pub mod Rotation
 pub mod Closing
 pub mod Made
 pub mod Validation

@@ -5,13 +5,14 @@ use Rattle.cas_model.specs.declared.call.Call.{Call}
 use Rattle.cas_model.specs.declared.call.Reply.{Reply}
 use Rattle.cas_model.specs.declared.call.Reply.TheVariants as reply
 use Rattle.cas_model.specs.declared.call.Who.{Who}
-use Rattle.cas_model.specs.State.{empty_state}
+use Rattle.cas_model.specs.State.{State}
 use Rattle.cas_model.specs.Step.{Entry}
 use Rattle.cas_history.specs.Cost.{HasRoomFor}
 use Rattle.cas_history.specs.History.{history}
 use Rattle.cas_history.specs.Laws.{NoneRefused}
 use Rattle.cas_history.specs.Script as script
 use Rattle.cell_port.specs.Plain.{EventsValue}
+use Rattle.generations.specs.Upstream.{upstream_state}
 use Rattle.sessions.specs.declared.script.Session.{Session}
 use Rattle.sessions.specs.Turns.{history_lines}
 use Rattle.cas_tool.specs.declared.answer.Answer.{Answer}
@@ -25,9 +26,9 @@ abbrev pub calls_of_sessions : List Session → List Call
 calls_of_sessions [] = []
 calls_of_sessions (session ∷ sessions) = script.calls_of (history_lines session.lines) ++ calls_of_sessions sessions
 
--- the counter of the opened words and the cost of the script are together at most the size of their region
+-- the counter of the opened words and the cost of the script over the upstream are together at most the size of their region
 abbrev pub HasRoom : Run → Type 0
-HasRoom run = HasRoomFor empty_state (calls_of_sessions run.script.sessions) run.opened.tables.counter run.opened.tables.size
+HasRoom run = HasRoomFor (upstream_state run.up) (calls_of_sessions run.script.sessions) run.opened.tables.counter run.opened.tables.size
 
 -- the reply is any but that a claim was refused
 abbrev pub IsNotFull : Reply → Type 0
@@ -40,9 +41,9 @@ NoneFull [] = Unit {0}
 NoneFull (entry ∷ earlier) = IsNotFull entry.reply × NoneFull earlier
 
 -- no claim was refused, so the history has no reply that says so, whatever the calls
-pub record IsUnrefused (events : EventsValue) : Type 0 where
+pub record IsUnrefused (up : State) (events : EventsValue) : Type 0 where
   pub claims : NoneRefused events.seen
-  pub replies : (calls : Who → Option Call) → NoneFull (history empty_state events.start calls events.seen)
+  pub replies : (calls : Who → Option Call) → NoneFull (history up events.start calls events.seen)
 
 -- the front shows a run that did not have room for its script
 pub record IsShort (front : Front) : Type 0 where
@@ -57,5 +58,5 @@ HasCause front other = Unit {0}
 
 -- where there is room for the script, no claim of the run that the front shows was refused, and so the answer is not `Full`
 pub record IsRoomy (front : Front) (answer : Answer) : Type 0 where
-  pub unrefused : (run : Run) → front_run front ≡ Some run → HasRoom run → IsUnrefused run.events
+  pub unrefused : (run : Run) → front_run front ≡ Some run → HasRoom run → IsUnrefused (upstream_state run.up) run.events
   pub cause : HasCause front answer

@@ -1,5 +1,5 @@
 -- What a run reads, changes, writes and answers: the contract of the top call.
-use Rattle.std.specs.Prelude.{◌≡◌, ℕ, ◌⊎◌, List, None, Some, String}
+use Rattle.std.specs.Prelude.{◌≡◌, ℕ, ◌+◌, ◌<◌, ◌⊎◌, List, None, Some, String}
 use Rattle.std.specs.String.{string_bytes}
 use Rattle.std.specs.declared.alloc.Global.{Global}
 use Rattle.std.specs.declared.option.Option.{Option}
@@ -19,6 +19,7 @@ use Rattle.cas_tool.specs.declared.answer.Answer.TheVariants.{Done, Usage, Write
 use Rattle.cas_tool.specs.declared.answer.Large.TheVariants.{References}
 use Rattle.cas_tool.specs.declared.answer.UsageKind.{UsageKind}
 use Rattle.cas_tool.specs.declared.answer.UsageKind.TheVariants.{Words, Operands, BadOperand}
+use Rattle.cas_tool.specs.declared.closing.Images.{Images}
 use Rattle.cas_tool.specs.declared.command.Options.{Options}
 use Rattle.cas_tool.specs.declared.command.Request.{Request}
 use Rattle.cas_tool.specs.declared.command.Task.{Task}
@@ -27,6 +28,7 @@ use Rattle.cas_tool.specs.declared.command.Verb.{Verb}
 use Rattle.cas_tool.specs.declared.front.Front.{Front}
 use Rattle.cas_tool.specs.declared.output.Output.{Output}
 use Rattle.cas_tool.specs.declared.output.Output.TheVariants.{Text, Denied}
+use Rattle.cas_tool.specs.declared.rotation.Rotation.{Rotation}
 use Rattle.cas_tool.specs.declared.running.Made.{Made}
 use Rattle.cas_tool.specs.declared.work.Work.{Work}
 use Rattle.cas_tool.specs.Front.{NotReached, Ran}
@@ -84,45 +86,55 @@ pub record Ask (words : List (String Global)) (request : Request) (dir : String 
 
 -- ---- a run that comes to its end
 
--- the primary's file has the image, where one is due, and the folder is as it was opened where none is
-abbrev pub IsSaved : ℕ → Option (Vec ℕ Global) → FolderView → FolderView → Type 0
-IsSaved number None old new = new ≡ old
-IsSaved number (Some image) old new = Saves (generation_name number) image.items old new (Ok tt)
+-- the file of the generation with this number has the image, where one is due, and the folder is as before where none is
+abbrev pub IsPut : ℕ → Option (Vec ℕ Global) → FolderView → FolderView → Type 0
+IsPut number None old new = new ≡ old
+IsPut number (Some image) old new = Saves (generation_name number) image.items old new (Ok tt)
 
--- the folder was opened, the work was run from what its primary holds, and what it made was saved
-pub record RunPrepares (dir : List ℕ) (size : ℕ) (work : Work) (old new : FolderView) (front : Front) (output : Output) : Type 0 where
+-- the primary was saved where it was due, and then a new generation was put above it where that was due
+pub record IsSaved (number : ℕ) (images : Images) (old new : FolderView) : Type 0 where
+  pub between : FolderView
+  pub saved : IsPut number images.image old between
+  pub rotated : IsPut (number + 1) images.next between new
+
+-- what decides a rotation above the primary with this number
+abbrev pub rotation_of : Options → ℕ → Rotation
+rotation_of options number = record { number = number; limit = options.limit; size = options.size }
+
+-- the folder was opened, the work was run from what its primary holds over what its upstream holds, and what it made was saved
+pub record RunPrepares (dir : List ℕ) (options : Options) (work : Work) (old new : FolderView) (front : Front) (output : Output) : Type 0 where
   pub opened : Opened
   pub between : FolderView
-  pub opens : HasOpened dir size old between opened
+  pub opens : HasOpened dir (first_size options) old between opened
   pub made : Made
-  pub has : HasMade opened.primary work front made
-  pub saved : IsSaved opened.number made.image between new
+  pub has : HasMade opened.primary opened.up work (rotation_of options opened.number) front made
+  pub saved : IsSaved opened.number made.images between new
   pub is : output ≡ made.output
 
 -- the folder was opened, and a line tells each generation that was read
-pub record ValidatePrepares (dir : List ℕ) (size : ℕ) (old new : FolderView) (output : Output) : Type 0 where
+pub record ValidatePrepares (dir : List ℕ) (options : Options) (old new : FolderView) (output : Output) : Type 0 where
   pub opened : Opened
-  pub opens : HasOpened dir size old new opened
+  pub opens : HasOpened dir (first_size options) old new opened
   pub is : IsText (valid_lines opened) output
 
 -- a task with a script has work, which was run. No other task reads the source
 pub record TaskPrepares (request : Request) (dir : List ℕ) (before after : Outside) (front : Front) (output : Output) : Type 0 where
   pub work : Work
   pub is_work : IsWork request.task before.source after.source work
-  pub prepares : RunPrepares dir (first_size request.options) work before.folder after.folder front output
+  pub prepares : RunPrepares dir request.options work before.folder after.folder front output
 
 -- what a task without a script leaves and gives
-abbrev pub UpkeepPrepares : Task → List ℕ → ℕ → FolderView → FolderView → Output → Type 0
-UpkeepPrepares Validate dir size old new output = ValidatePrepares dir size old new output
-UpkeepPrepares Prune dir size old new output = PrunePrepares dir old new output
-UpkeepPrepares (Once command) dir size old new output = ⊥
-UpkeepPrepares Batch dir size old new output = ⊥
-UpkeepPrepares (Workload rounds) dir size old new output = ⊥
+abbrev pub UpkeepPrepares : Task → List ℕ → Options → FolderView → FolderView → Output → Type 0
+UpkeepPrepares Validate dir options old new output = ValidatePrepares dir options old new output
+UpkeepPrepares Prune dir options old new output = PrunePrepares dir old new output
+UpkeepPrepares (Once command) dir options old new output = ⊥
+UpkeepPrepares Batch dir options old new output = ⊥
+UpkeepPrepares (Workload rounds) dir options old new output = ⊥
 
 pub record FolderPrepares (request : Request) (dir : List ℕ) (before after : Outside) (front : Front) (output : Output) : Type 0 where
   pub unread : after.source ≡ before.source
   pub no_run : NotReached front
-  pub prepares : UpkeepPrepares request.task dir (first_size request.options) before.folder after.folder output
+  pub prepares : UpkeepPrepares request.task dir request.options before.folder after.folder output
 
 -- all was done but the writing
 pub record Prepares (words : List (String Global)) (before after : Outside) (front : Front) (output : Output) : Type 0 where
@@ -146,65 +158,74 @@ pub record OpenRefuses (dir : List ℕ) (old new : FolderView) (front : Front) (
 
 -- the folder was opened, and memory was wanted before the run, in it, or for what it made: a history is legal all the same, and the
 -- folder is as it was opened
-pub record StopsRunning (dir : List ℕ) (size : ℕ) (work : Work) (old new : FolderView) (front : Front) (answer : Answer) : Type 0 where
+pub record StopsRunning (dir : List ℕ) (options : Options) (work : Work) (old new : FolderView) (front : Front) (answer : Answer) : Type 0 where
   pub opened : Opened
-  pub opens : HasOpened dir size old new opened
+  pub opens : HasOpened dir (first_size options) old new opened
   pub memory : answer ≡ NoMemory
-  pub ran : NotReached front ⊎ Ran opened.primary work.script front
+  pub ran : NotReached front ⊎ Ran opened.primary opened.up work.script front
 
--- the answer where the primary was not saved
+-- the answer where an image was not saved
 abbrev pub save_answer : SaveError → Answer
 save_answer save.FolderFault = FolderFault
 save_answer save.Memory = NoMemory
 
 -- an image was due, and was not saved, or after a fault maybe was
-pub record SavingStops (number : ℕ) (due : Option (Vec ℕ Global)) (old new : FolderView) (answer : Answer) : Type 0 where
+pub record PutStops (number : ℕ) (due : Option (Vec ℕ Global)) (old new : FolderView) (answer : Answer) : Type 0 where
   pub image : Vec ℕ Global
   pub is_due : due ≡ Some image
   pub error : SaveError
   pub saves : Saves (generation_name number) image.items old new (Err error)
   pub is : answer ≡ save_answer error
 
--- the work was run to its end, and what it made was not saved
-pub record StopsSaving (dir : List ℕ) (size : ℕ) (work : Work) (old new : FolderView) (front : Front) (answer : Answer) : Type 0 where
+-- the primary was saved where it was due, and the new generation was not put above it, or after a fault maybe was
+pub record RotatingStops (number : ℕ) (images : Images) (old new : FolderView) (answer : Answer) : Type 0 where
+  pub between : FolderView
+  pub saved : IsPut number images.image old between
+  pub stops : PutStops (number + 1) images.next between new answer
+
+abbrev pub SavingStops : ℕ → Images → FolderView → FolderView → Answer → Type 0
+SavingStops number images old new answer = PutStops number images.image old new answer ⊎ RotatingStops number images old new answer
+
+-- the work was run to its end, and what it made was not saved whole
+pub record StopsSaving (dir : List ℕ) (options : Options) (work : Work) (old new : FolderView) (front : Front) (answer : Answer) : Type 0 where
   pub opened : Opened
   pub between : FolderView
-  pub opens : HasOpened dir size old between opened
+  pub opens : HasOpened dir (first_size options) old between opened
   pub made : Made
-  pub has : HasMade opened.primary work front made
-  pub stops : SavingStops opened.number made.image between new answer
+  pub has : HasMade opened.primary opened.up work (rotation_of options opened.number) front made
+  pub stops : SavingStops opened.number made.images between new answer
 
-abbrev pub RunRefuses : List ℕ → ℕ → Work → FolderView → FolderView → Front → Answer → Type 0
-RunRefuses dir size work old new front answer =
-    OpenRefuses dir old new front answer ⊎ (StopsRunning dir size work old new front answer ⊎ StopsSaving dir size work old new front answer)
+abbrev pub RunRefuses : List ℕ → Options → Work → FolderView → FolderView → Front → Answer → Type 0
+RunRefuses dir options work old new front answer =
+    OpenRefuses dir old new front answer ⊎ (StopsRunning dir options work old new front answer ⊎ StopsSaving dir options work old new front answer)
 
 -- the work was made ready, and its run came to no end
 pub record TaskRefuses (request : Request) (dir : List ℕ) (before after : Outside) (front : Front) (answer : Answer) : Type 0 where
   pub work : Work
   pub is_work : IsWork request.task before.source after.source work
-  pub refuses : RunRefuses dir (first_size request.options) work before.folder after.folder front answer
+  pub refuses : RunRefuses dir request.options work before.folder after.folder front answer
 
 -- a check of the images stopped, or found no memory for its text
-pub record StopsChecking (dir : List ℕ) (size : ℕ) (old new : FolderView) (answer : Answer) : Type 0 where
+pub record StopsChecking (dir : List ℕ) (options : Options) (old new : FolderView) (answer : Answer) : Type 0 where
   pub opened : Opened
-  pub opens : HasOpened dir size old new opened
+  pub opens : HasOpened dir (first_size options) old new opened
   pub memory : answer ≡ NoMemory
 
-abbrev pub ValidateRefuses : List ℕ → ℕ → FolderView → FolderView → Answer → Type 0
-ValidateRefuses dir size old new answer = OpeningStops dir old new answer ⊎ StopsChecking dir size old new answer
+abbrev pub ValidateRefuses : List ℕ → Options → FolderView → FolderView → Answer → Type 0
+ValidateRefuses dir options old new answer = OpeningStops dir old new answer ⊎ StopsChecking dir options old new answer
 
 -- why a task without a script stopped
-abbrev pub UpkeepRefuses : Task → List ℕ → ℕ → FolderView → FolderView → Answer → Type 0
-UpkeepRefuses Validate dir size old new answer = ValidateRefuses dir size old new answer
-UpkeepRefuses Prune dir size old new answer = PruneRefuses dir old new answer
-UpkeepRefuses (Once command) dir size old new answer = ⊥
-UpkeepRefuses Batch dir size old new answer = ⊥
-UpkeepRefuses (Workload rounds) dir size old new answer = ⊥
+abbrev pub UpkeepRefuses : Task → List ℕ → Options → FolderView → FolderView → Answer → Type 0
+UpkeepRefuses Validate dir options old new answer = ValidateRefuses dir options old new answer
+UpkeepRefuses Prune dir options old new answer = PruneRefuses dir old new answer
+UpkeepRefuses (Once command) dir options old new answer = ⊥
+UpkeepRefuses Batch dir options old new answer = ⊥
+UpkeepRefuses (Workload rounds) dir options old new answer = ⊥
 
 pub record FolderRefuses (request : Request) (dir : List ℕ) (before after : Outside) (front : Front) (answer : Answer) : Type 0 where
   pub unread : after.source ≡ before.source
   pub no_run : NotReached front
-  pub refuses : UpkeepRefuses request.task dir (first_size request.options) before.folder after.folder answer
+  pub refuses : UpkeepRefuses request.task dir request.options before.folder after.folder answer
 
 -- the work was not made ready, and the folder was not asked for
 pub record WorkStops (request : Request) (before after : Outside) (front : Front) (answer : Answer) : Type 0 where
@@ -250,6 +271,11 @@ Because words before after front WriteFault = IsCutOff words before after front
 Because words before after front answer = WithNothing words before after front answer
 
 -- ---- on the way
+
+-- where an image of a new generation is due, there is a number above this one
+abbrev pub HasNext : ℕ → Option (Vec ℕ Global) → Type 0
+HasNext number None = Unit {0}
+HasNext number (Some image) = number < 4294967295
 
 -- how the writing of a text ended
 abbrev pub Writes : List ℕ → Sink → Sink → Answer → Type 0

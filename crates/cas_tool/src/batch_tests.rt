@@ -44,7 +44,7 @@ fn a_second_run_hits_what_the_first_made(rt: HostRuntime) -> Result<(), Fail> {
     // The second run enters, locks, lists and reads, and its next call would fail.
     let mut folder = folder_failing(rt.alloc(), &[9])?;
     let script = steps_script(rt.alloc())?;
-    let words = ["--batch", "--workers", "1"];
+    let words = ["--batch", "--workers", "1", "--limit", "8388608"];
     let first = run_in(&rt, &mut folder, &words, script.as_bytes())?;
     assert_eq!(rt;
         (first.status, told_in(first.sink.written())),

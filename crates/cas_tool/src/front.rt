@@ -13,8 +13,10 @@ pub struct Front {
 /// A run that was reached.
 #[derive(Drop)]
 pub struct Run {
-    /// The generation that was opened.
+    /// The primary that was opened.
     opened: Frozen,
+    /// The generation before it, if there is one.
+    up: Option<Frozen>,
     /// The script whose calls were made.
     script: Script,
     /// What the port saw.
@@ -32,13 +34,14 @@ impl Front {
         Front { run: None }
     }
 
-    /// A run of this script from this generation, with what its port saw.
-    pub(crate) fn of(opened: Frozen, script: Script, events: Events) -> Front
-        ensures { front_run result ≡ Some (run_of opened script events) }
+    /// A run of this script from this primary over this upstream, with what its port saw.
+    pub(crate) fn of(opened: Frozen, up: Option<Frozen>, script: Script, events: Events) -> Front
+        ensures { front_run result ≡ Some (run_of opened up script events) }
     {
         Front {
             run: Some(Run {
                 opened,
+                up,
                 script,
                 events,
             }),

@@ -64,7 +64,7 @@ fn one_byte_more_is_too_large(rt: HostRuntime) -> Result<(), Fail> {
 }
 
 #[test]
-fn a_full_store_loses_nothing(rt: HostRuntime) -> Result<(), Fail> {
+fn a_full_store_loses_nothing_and_goes_on(rt: HostRuntime) -> Result<(), Fail> {
     let mut folder = fresh_folder(rt.alloc());
     let words = ["--make-blob", "--size", "4096"];
     let over = bytes_of(rt.alloc(), b'a', 28_568)?;
@@ -79,7 +79,7 @@ fn a_full_store_loses_nothing(rt: HostRuntime) -> Result<(), Fail> {
     let least = bytes_of(rt.alloc(), b'a', 28_560)?;
     assert_eq!(rt; run_in(&rt, &mut folder, &words, &least)?.status, 0);
     assert_eq!(rt; length_of(&folder), Some(32_800));
-    // The store keeps its size.
+    // The primary keeps its size, and the new generation has the one that is asked for.
     let words = ["--make-blob", "--size", "5000"];
     let full = Answer::Full(Full {
         at: 4_096,
@@ -90,9 +90,11 @@ fn a_full_store_loses_nothing(rt: HostRuntime) -> Result<(), Fail> {
     assert_eq!(rt; (more.status, more.answer), (7, full));
     assert_eq!(rt; more.sink.written().len(), 0);
     let valid = run_in(&rt, &mut folder, &["--validate"], b"")?;
-    assert!(rt; valid.ended(0, b"valid v1.1 1 0\n"));
+    assert!(rt; valid.ended(0, b"valid v1.2 0 0\nvalid v1.1 1 0\n"));
     let back = run_in(&rt, &mut folder, &["--cat-node-data", LEAST], b"")?;
     assert!(rt; back.ended(0, &least));
+    let valid = run_in(&rt, &mut folder, &["--validate"], b"")?;
+    assert!(rt; valid.ended(0, b"valid v1.2 1 0\nvalid v1.1 1 0\n"));
     Ok(())
 }
 
@@ -124,6 +126,6 @@ fn lines_that_do_not_fit_are_told(rt: HostRuntime) -> Result<(), Fail> {
     let ran = run_in(&rt, &mut folder, &["--batch"], &script)?;
     assert!(rt; ran.ended(0, TOLD.as_bytes()));
     let valid = run_in(&rt, &mut folder, &["--validate"], b"")?;
-    assert!(rt; valid.ended(0, b"valid v1.1 3 0\n"));
+    assert!(rt; valid.ended(0, b"valid v1.2 0 0\nvalid v1.1 3 0\n"));
     Ok(())
 }

@@ -7,12 +7,15 @@ mod batch_tests;
 mod closing;
 mod command;
 mod front;
+#[cfg(test)]
+mod generation_tests;
 mod input;
 #[cfg(test)]
 mod limit_tests;
 mod opening;
 mod output;
 mod pruning;
+mod rotation;
 mod run;
 mod running;
 #[cfg(test)]

@@ -1,5 +1,5 @@
 // The top call.
-ghost use Rattle.std.specs.Prelude.{◌≡◌, ◌≤◌, IfOk, IfErr, OnOk, true};
+ghost use Rattle.std.specs.Prelude.{◌≡◌, ◌+◌, IfOk, IfErr, OnOk, true};
 ghost use Rattle.cas_outside.specs.Folder.{MayEnter};
 ghost use Rattle.sessions.specs.Limits.{FitsScript};
 ghost use Rattle.cas_tool.specs.Answer.{status_of};
@@ -7,25 +7,28 @@ ghost use Rattle.cas_tool.specs.Complete.{IsCompleteRun};
 ghost use Rattle.cas_tool.specs.Headline.{HasHeadline};
 ghost use Rattle.cas_tool.specs.Made.{IsOneCall};
 ghost use Rattle.cas_tool.specs.Room.{IsRoomy};
-ghost use Rattle.cas_tool.specs.Run.{Because, Ends, IsSaved, Prepares, Refuses, RunPrepares, RunRefuses, SavingStops, ValidatePrepares, ValidateRefuses, outside_with, sink_with, world_with};
+ghost use Rattle.cas_tool.specs.Rotation.{IsSizeFor};
+ghost use Rattle.cas_tool.specs.Run.{Because, Ends, HasNext, IsPut, IsSaved, Prepares, PutStops, Refuses, RunPrepares, RunRefuses, SavingStops, ValidatePrepares, ValidateRefuses, outside_with, save_answer, sink_with, world_with};
 
 use crate::answer::{Answer, Outcome};
-use crate::command::{Request, Task};
+use crate::closing::Images;
+use crate::command::{Options, Request, Task};
 use crate::front::Front;
 use crate::opening::open;
 use crate::output::{Output, write_all};
 use crate::pruning::prune_text;
-use crate::running::{Made, run_work};
+use crate::rotation::Rotation;
+use crate::running::run_work;
 use crate::validate::valid_text;
 use crate::words::read_words;
 use crate::work::{Work, work_of};
 use cas_outside::{Folder, Gate, Sink, Source};
-use generations::{Opened, SaveError, save};
+use generations::{Opened, SaveError, rotate, save};
 use std::alloc::{AllocError, AllocGlobal, Global};
 
 /// Runs the command that the words, those after the program's name, say: it reads the source where the command reads it,
-/// opens the folder, runs, saves the primary where its state changed, and writes the output to the sink. The folder must
-/// not have been asked for one yet.
+/// opens the folder, runs, saves the primary where its state changed, puts a new generation above it where that is due, and
+/// writes the output to the sink. The folder must not have been asked for one yet.
 pub fn cas_run<R: AllocGlobal, F: Folder, S: Source, W: Sink, G: Gate>(
     rt: &R,
     words: &[String],
@@ -85,12 +88,11 @@ fn prepare<F: Folder, S: Source, G: Gate>(
     };
     let dir = words[1].as_str();
     let Request { task, options } = request;
-    let size = options.first_size();
     match task {
-        Task::Validate => (Front::none(), validate(alloc, folder, dir, size)),
+        Task::Validate => (Front::none(), validate(alloc, folder, dir, options)),
         Task::Prune => (Front::none(), prune_text(alloc, folder, dir)),
         task => match work_of(alloc, task, source) {
-            Ok(work) => run_in_folder(alloc, folder, dir, size, work, gate),
+            Ok(work) => run_in_folder(alloc, folder, dir, options, work, gate),
             Err(answer) => (Front::none(), Err(answer)),
         },
     }
@@ -101,15 +103,14 @@ fn validate<F: Folder>(
     alloc: Global,
     folder: &mut F,
     dir: &str,
-    size: u64,
+    options: Options,
 ) -> Result<Output, Answer>
     requires enters { MayEnter (F.view folder.old) }
-    requires least { 4096 ≤ size }
-    requires most { size ≤ 67108864 }
-    ensures ok { IfOk result (λ output. ValidatePrepares dir.now size (F.view folder.old) (F.view folder.new) output) }
-    ensures err { IfErr result (λ answer. ValidateRefuses dir.now size (F.view folder.old) (F.view folder.new) answer) }
+    requires size { IsSizeFor options.size }
+    ensures ok { IfOk result (λ output. ValidatePrepares dir.now options (F.view folder.old) (F.view folder.new) output) }
+    ensures err { IfErr result (λ answer. ValidateRefuses dir.now options (F.view folder.old) (F.view folder.new) answer) }
 {
-    let opened = open(alloc, folder, dir, size)?;
+    let opened = open(alloc, folder, dir, options.first_size())?;
     Ok(Output::Text(valid_text(alloc, &opened)?))
 }
 
@@ -118,53 +119,103 @@ fn run_in_folder<F: Folder, G: Gate>(
     alloc: Global,
     folder: &mut F,
     dir: &str,
-    size: u64,
+    options: Options,
     work: Work,
     gate: &G,
 ) -> (Front, Result<Output, Answer>)
     requires enters { MayEnter (F.view folder.old) }
-    requires least { 4096 ≤ size }
-    requires most { size ≤ 67108864 }
+    requires size { IsSizeFor options.size }
     requires fits { FitsScript work.script }
     requires one { IsOneCall work }
-    ensures ok { IfOk result.1 (λ output. RunPrepares dir.now size work (F.view folder.old) (F.view folder.new) result.0 output) }
-    ensures err { IfErr result.1 (λ answer. RunRefuses dir.now size work (F.view folder.old) (F.view folder.new) result.0 answer) }
+    ensures ok { IfOk result.1 (λ output. RunPrepares dir.now options work (F.view folder.old) (F.view folder.new) result.0 output) }
+    ensures err { IfErr result.1 (λ answer. RunRefuses dir.now options work (F.view folder.old) (F.view folder.new) result.0 answer) }
 {
     let Opened {
         number,
         primary,
+        up,
         ..
-    } = match open(alloc, folder, dir, size) {
+    } = match open(alloc, folder, dir, options.first_size()) {
         Ok(opened) => opened,
         Err(answer) => return (Front::none(), Err(answer)),
     };
-    match run_work(alloc, primary, work, gate) {
-        (front, Ok(made)) => {
-            let saved = save_made(alloc, folder, number, made);
-            (front, saved)
-        }
+    let rotation = Rotation {
+        number,
+        limit: options.limit,
+        size: options.size,
+    };
+    match run_work(alloc, primary, up, work, rotation, gate) {
+        (front, Ok(made)) => match save_images(alloc, folder, number, &made.images) {
+            Ok(()) => (front, Ok(made.output)),
+            Err(answer) => (front, Err(answer)),
+        },
         (front, Err(AllocError)) => (front, Err(Answer::NoMemory)),
     }
 }
 
-// Saves the image that is due, where there is one, and answers what the run gives.
-fn save_made<F: Folder>(
+// Saves the primary where that is due, and then puts a new generation above it where that is due.
+fn save_images<F: Folder>(
     alloc: Global,
     folder: &mut F,
     number: u32,
-    made: Made,
-) -> Result<Output, Answer>
-    requires { (F.view folder.old).locked ≡ true }
-    ensures output { IfOk result (λ output. output ≡ made.output) }
-    ensures saved { OnOk result (IsSaved number made.image (F.view folder.old) (F.view folder.new)) }
-    ensures stops { IfErr result (λ answer. SavingStops number made.image (F.view folder.old) (F.view folder.new) answer) }
+    images: &Images,
+) -> Result<(), Answer>
+    requires locked { (F.view folder.old).locked ≡ true }
+    requires number { HasNext number images.now.next }
+    ensures ok { OnOk result (IsSaved number images.now (F.view folder.old) (F.view folder.new)) }
+    ensures err { IfErr result (λ answer. SavingStops number images.now (F.view folder.old) (F.view folder.new) answer) }
 {
-    if let Some(image) = &made.image {
-        match save(alloc, folder, number, image) {
-            Ok(()) => {}
-            Err(SaveError::FolderFault) => return Err(Answer::FolderFault),
-            Err(SaveError::Memory) => return Err(Answer::NoMemory),
-        }
+    save_due(alloc, folder, number, &images.image)?;
+    rotate_due(alloc, folder, number, &images.next)
+}
+
+// Saves the primary, where its image is due.
+fn save_due<F: Folder>(
+    alloc: Global,
+    folder: &mut F,
+    number: u32,
+    image: &Option<Vec<u8>>,
+) -> Result<(), Answer>
+    requires { (F.view folder.old).locked ≡ true }
+    ensures ok { OnOk result (IsPut number image.now (F.view folder.old) (F.view folder.new)) }
+    ensures err { IfErr result (λ answer. PutStops number image.now (F.view folder.old) (F.view folder.new) answer) }
+{
+    let Some(bytes) = image else {
+        return Ok(());
+    };
+    match save(alloc, folder, number, bytes) {
+        Ok(()) => Ok(()),
+        Err(error) => Err(put_answer(error)),
     }
-    Ok(made.output)
+}
+
+// Puts a new generation above the primary, where its image is due.
+fn rotate_due<F: Folder>(
+    alloc: Global,
+    folder: &mut F,
+    number: u32,
+    next: &Option<Vec<u8>>,
+) -> Result<(), Answer>
+    requires locked { (F.view folder.old).locked ≡ true }
+    requires number { HasNext number next.now }
+    ensures ok { OnOk result (IsPut (number + 1) next.now (F.view folder.old) (F.view folder.new)) }
+    ensures err { IfErr result (λ answer. PutStops (number + 1) next.now (F.view folder.old) (F.view folder.new) answer) }
+{
+    let Some(bytes) = next else {
+        return Ok(());
+    };
+    match rotate(alloc, folder, number, bytes) {
+        Ok(()) => Ok(()),
+        Err(error) => Err(put_answer(error)),
+    }
+}
+
+// The answer where an image was not saved.
+fn put_answer(error: SaveError) -> Answer
+    ensures { result ≡ save_answer error }
+{
+    match error {
+        SaveError::FolderFault => Answer::FolderFault,
+        SaveError::Memory => Answer::NoMemory,
+    }
 }
