@@ -20,7 +20,7 @@ def least(piece, count):
     for _ in range(runs):
         done = subprocess.run([program, piece, str(count)], capture_output=True, check=True, text=True)
         times.append(int(done.stderr) / 1e9)
-    print(f'{piece:>10} {count:>8}: {min(times):.4f} s')
+    print(f'{piece:>11} {count:>8}: {min(times):.4f} s')
     return min(times)
 
 
@@ -46,6 +46,8 @@ beside('check of 60,000 tables that overlap, to half of them', least('overlaps',
 summing = least('sum', 4)
 beside('reading an image of 64 MiB, to its SHA-256', least('read', 4) / summing, 2.5)
 beside('making an image of 64 MiB, to its SHA-256', least('image', 4) / summing, 1.5)
+beside('bringing in a chain of 200,000 objects, to half of them', least('bring-chain', 200000) / least('bring-chain', 100000), 2.5)
+beside('bringing in a tree of 200,000 leaves, to half of them', least('bring-wide', 200000) / least('bring-wide', 100000), 2.5)
 print(f"a look among 100,000 objects: {least('look', count) / count * 1e9:.0f} ns, at most 63 loads of slots")
 
 # ---- the shipped program

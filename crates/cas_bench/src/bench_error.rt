@@ -1,4 +1,6 @@
 // Why a piece was not timed.
+use fault_in::FaultInError;
+use graph_db::StoreError;
 use image_file::ImageError;
 use region_core::BuildError;
 use sessions::ScriptError;
@@ -16,6 +18,8 @@ pub enum BenchError {
     Memory,
     /// The objects do not fit into the largest region.
     Full,
+    /// An object that another refers to was not stored.
+    Absent,
     /// The lines are too many for a script.
     Script,
     /// The bytes are no image.
@@ -45,6 +49,25 @@ impl From<BuildError> for BenchError {
         match error {
             BuildError::Full(_) => BenchError::Full,
             BuildError::Memory => BenchError::Memory,
+        }
+    }
+}
+
+impl From<StoreError> for BenchError {
+    fn from(error: StoreError) -> BenchError {
+        match error {
+            StoreError::Dangling { .. } => BenchError::Absent,
+            StoreError::Full(_) => BenchError::Full,
+            StoreError::Memory => BenchError::Memory,
+        }
+    }
+}
+
+impl From<FaultInError> for BenchError {
+    fn from(error: FaultInError) -> BenchError {
+        match error {
+            FaultInError::Full(_) => BenchError::Full,
+            FaultInError::Memory => BenchError::Memory,
         }
     }
 }

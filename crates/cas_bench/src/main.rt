@@ -3,11 +3,13 @@
 //!
 //! The words are the piece, and a number: of objects of 100 bytes each for `digest`, `build`, `look`, `contents` and
 //! `check`; of script lines for `parse` and `acts`; of records that name one content for `crowd`, of tables for
-//! `overlaps`; and of objects of 16,777,215 bytes each, at most 256, for `read`, `image` and `sum`.
+//! `overlaps`; of objects of 16,777,215 bytes each, at most 256, for `read`, `image` and `sum`; of the objects of a chain for
+//! `bring-chain`; and of the leaves of a tree for `bring-wide`.
 #![tactic(auto)]
 
 mod acts;
 mod bench_error;
+mod bring;
 mod hostile;
 mod images;
 mod piece;

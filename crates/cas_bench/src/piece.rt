@@ -1,6 +1,7 @@
 // The pieces that are timed.
 use crate::acts::{measure_acts, measure_parse};
 use crate::bench_error::BenchError;
+use crate::bring::{measure_chain, measure_wide};
 use crate::images::{
     measure_check, measure_crowd, measure_image, measure_overlaps, measure_read, measure_sum,
 };
@@ -42,6 +43,10 @@ pub enum Piece {
     Image,
     /// The SHA-256 of an image.
     Sum,
+    /// A chain of objects, brought from an upstream.
+    BringChain,
+    /// A wide tree of objects, brought from an upstream.
+    BringWide,
 }
 
 /// What a piece gave, and how long it took.
@@ -69,6 +74,8 @@ impl Piece {
             "read" => Some(Piece::Read),
             "image" => Some(Piece::Image),
             "sum" => Some(Piece::Sum),
+            "bring-chain" => Some(Piece::BringChain),
+            "bring-wide" => Some(Piece::BringWide),
             _ => None,
         }
     }
@@ -93,6 +100,8 @@ impl Piece {
             Piece::Read => measure_read(clock, alloc, count),
             Piece::Image => measure_image(clock, alloc, count),
             Piece::Sum => measure_sum(clock, alloc, count),
+            Piece::BringChain => measure_chain(clock, alloc, count),
+            Piece::BringWide => measure_wide(clock, alloc, count),
         }
     }
 }

@@ -1,12 +1,13 @@
 -- The lines of a session, one after another.
-use Rattle.std.proofs.Common.{◌≡◌, ℕ, zero, suc, ◌*◌, ◌^◌, ◌<◌, ◌≤◌, inl, inr, List, [], ◌∷◌, length, drop, get_or, slice_get, Some, refl, ap, sym, subst, arith}
+use Rattle.std.proofs.Common.{◌≡◌, ℕ, zero, suc, ◌*◌, ◌^◌, ◌<◌, ◌≤◌, inl, inr, List, [], ◌∷◌, length, drop, get_or, slice_get, Some, option_copied, refl, ap, sym, subst, arith}
 use Rattle.std.specs.List.{AllByRecursion}
 use Rattle.std.proofs.lemmas.Option.{slice_get_within, slice_get_read}
 use Rattle.cas_model.specs.declared.call.Reply.{Reply}
-use Rattle.cas_model.specs.State.{empty_state}
 use Rattle.cas_history.specs.Script.{Before}
 use Rattle.cell_port.specs.Calls.{IsLawful}
 use Rattle.cell_port.specs.View.{View}
+use Rattle.generations.specs.declared.unified.Unified.{Unified}
+use Rattle.generations.specs.Upstream.{upstream_state}
 use Rattle.graph_db.specs.Parts.{IsLawfulOrSame}
 use Rattle.graph_db.proofs.Found.{lawful-same-then}
 use Rattle.sessions.specs.declared.script.Line.{Line}
@@ -71,9 +72,10 @@ lines-all session lines i replies a v past ran = record {
   stands = subst (λ (rest : List Line). StandsAt v session (history_lines lines) (Before (history_lines rest)) replies) (drop-all lines i past) ran.stands;
 }
 
-pub lines-ready : (session : ℕ) (lines : List Line) (i : ℕ) (replies : List Reply) (a v : View) → a.upstream ≡ empty_state → IsUnseen a session → HaveRunLines session lines i replies a v → IsReady v session
-lines-ready session lines i replies a v up unseen ran =
-    subst (λ (w : View). IsReady w session) (sym ran.adds.is) (record { upstream = up; speaks = unseen.speaks })
+pub lines-ready : (unified : Unified) (session : ℕ) (lines : List Line) (i : ℕ) (replies : List Reply) (a v : View) → a.upstream ≡ upstream_state (option_copied unified.up) → IsUnseen a session
+    → HaveRunLines session lines i replies a v → IsReady unified v session
+lines-ready unified session lines i replies a v up unseen ran =
+    subst (λ (w : View). IsReady unified w session) (sym ran.adds.is) (record { upstream = up; speaks = unseen.speaks })
 
 pub lines-few : (session : ℕ) (lines : List Line) (i : ℕ) (line : Line) (replies : List Reply) (a v : View) → slice_get lines i ≡ Some line → length lines ≤ 65536 → HaveRunLines session lines i replies a v
     → length replies < 2 ^ 31

@@ -1,5 +1,5 @@
 -- Where a session stands while it runs: what it has added so far, whatever calls come after.
-use Rattle.std.specs.Prelude.{◌≡◌, ℕ, ◌≤◌, ◌+◌, ◌⊎◌, List, [], ◌∷◌, ◌++◌, length, slice_get, Some, None, true}
+use Rattle.std.specs.Prelude.{◌≡◌, ℕ, ◌≤◌, ◌+◌, ◌⊎◌, List, [], ◌∷◌, ◌++◌, length, slice_get, Some, None, true, option_copied}
 use Rattle.std.specs.declared.option.Option.{Option}
 use Rattle.cas_model.specs.declared.call.Call.{Call}
 use Rattle.cas_model.specs.declared.call.Reply.{Reply}
@@ -7,13 +7,14 @@ use Rattle.cas_model.specs.declared.call.Reply.TheVariants as reply
 use Rattle.cas_model.specs.declared.call.Who.{Who}
 use Rattle.cas_model.specs.declared.digest.Digest.{Digest}
 use Rattle.cas_model.specs.declared.object.Object.{Object}
-use Rattle.cas_model.specs.State.{empty_state}
 use Rattle.cas_model.specs.Step.{Entry}
 use Rattle.cas_history.specs.Conduct.{HasConduct}
 use Rattle.cas_history.specs.Cost.{asked, IsWithinCost}
 use Rattle.cas_history.specs.Script.{At, Before, Missed, Line, Follows, at_after, call_at}
 use Rattle.cell_port.specs.View.{View}
+use Rattle.generations.specs.declared.unified.Unified.{Unified}
 use Rattle.generations.specs.Answers.{Answers, Stops}
+use Rattle.generations.specs.Upstream.{upstream_state}
 use Rattle.sessions.specs.declared.said.Said.{Said}
 use Rattle.sessions.specs.declared.said.Said.TheVariants as said
 use Rattle.sessions.specs.Turns.{call_number, entries_in, replies_of, AddsOfThese, LeavesOfThese}
@@ -77,9 +78,9 @@ pub record StandsStill (v : View) (session : ℕ) (lines : List Line) : Type 0 w
 
 -- ---- one call
 
--- the store is asked through a port that speaks for the session, over no upstream
-pub record IsReady (v : View) (session : ℕ) : Type 0 where
-  pub upstream : v.upstream ≡ empty_state
+-- the store is asked through a port over its upstream that speaks for the session
+pub record IsReady (unified : Unified) (v : View) (session : ℕ) : Type 0 where
+  pub upstream : v.upstream ≡ upstream_state (option_copied unified.up)
   pub speaks : v.speaks session ≡ true
 
 -- what a reply says to an action

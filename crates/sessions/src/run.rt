@@ -1,6 +1,6 @@
 // Running sessions in turn.
-ghost use Rattle.std.specs.Prelude.{◌≡◌, ◌<◌, ◌≤◌, None, length, IfOk, OnErr};
-ghost use Rattle.cas_model.specs.State.{empty_state};
+ghost use Rattle.std.specs.Prelude.{◌≡◌, ◌<◌, ◌≤◌, length, option_copied, IfOk, OnErr};
+ghost use Rattle.generations.specs.Upstream.{upstream_state};
 ghost use Rattle.graph_db.specs.Parts.{IsLawfulOrSame};
 ghost use Rattle.sessions.specs.Limits.{FitsScript, FitsSession};
 ghost use Rattle.sessions.specs.Standing.{HasRunSession, HasStoppedSession};
@@ -14,8 +14,8 @@ use frozen_store::Frozen;
 use generations::Unified;
 use std::alloc::{AllocError, Global};
 
-/// Runs the sessions of a script one after another, in rising order, and answers the reply of each call. There is no
-/// upstream yet.
+/// Runs the sessions of a script one after another, in rising order, over the generation before the primary, where there is
+/// one, and answers the reply of each call.
 ///
 /// Sessions and the calls of a session are numbered from 0. The gate stands round each call. The rules of a script's lines
 /// are this project's own. An error is want of memory, of the port or for a reply.
@@ -26,8 +26,7 @@ pub fn run_in_turn<P: CellPort, G: Gate>(
     script: &Script,
     gate: &G,
 ) -> Result<Replies, AllocError>
-    requires alone { up ≡ None }
-    requires upstream { (P.view port.old).upstream ≡ empty_state }
+    requires upstream { (P.view port.old).upstream ≡ upstream_state (option_copied up) }
     requires fits { FitsScript script.now }
     requires unseen { AreUnseen (P.view port.old) (length script.now.sessions) }
     ensures ok { IfOk result (λ replies. HaveRun script.now.sessions replies.sessions (P.view port.old) (P.view port.new)) }
@@ -56,8 +55,7 @@ fn run_session<P: CellPort, G: Gate>(
     port: &mut P,
     session: &Session,
 ) -> Result<SessionReplies, AllocError>
-    requires alone { turn.now.unified.up ≡ None }
-    requires upstream { (P.view port.old).upstream ≡ empty_state }
+    requires upstream { (P.view port.old).upstream ≡ upstream_state (option_copied turn.now.unified.up) }
     requires fits { FitsSession session.now }
     requires unseen { IsUnseen (P.view port.old) turn.now.session }
     ensures ok { IfOk result (λ own. HasRunSession turn.now.session (history_lines session.now.lines) own.replies (P.view port.old) (P.view port.new)) }

@@ -9,6 +9,7 @@ use crate::{
 use cas_model::{Data, Digest, Refs, Reply, Who};
 use cas_outside::{Gate, NoGate};
 use cell_port::PlainPort;
+use frozen_store::Frozen;
 use std::alloc::{AllocError, Global};
 use std::cell::Cell;
 use std::test::Fail;
@@ -22,6 +23,11 @@ const X: &str = "llvmcas://65094dcac6e080cfc5b7f72bbd21c7686cdba23256df27bc2fddd
 const Y: &str = "llvmcas://96f5a69f51fda94d5dd978cfb0a15032a96bf264f26bed7cc2cb86d4ee298938";
 
 const THREE: &str = "llvmcas://379e66ad4339b5922043a2751bb423e26415a08c0c9f0c95a91e8f5d6d70885d";
+
+// The id of the object with the data `y` and a reference to that of `x`, and of the one with no data that refers to it.
+const Y_OVER_X: &str = "llvmcas://7fd124711ae138f0040aca4e77516be5830ab274980c15d2b874afa0c1ea3481";
+
+const TOP: &str = "llvmcas://48eacd478eb0dd0d666a94af51c977676b02c61462e548845a659a882a0c05b9";
 // The id of 32 zero bytes, which no object has.
 const ZERO: &str = "llvmcas://0000000000000000000000000000000000000000000000000000000000000000";
 
@@ -116,6 +122,63 @@ fn the_first_absent_reference_is_named(rt: HostRuntime) -> Result<(), Fail> {
     let is = output(alloc, text.as_str())?;
     let want = format!(in alloc;
         "0.1 stored {X}\n0.2 dangling 1 {ZERO}\n0.3 dangling 0 {ZERO}\n0.4 dangling 0 {ZERO}\n"
+    )?;
+    assert_eq!(rt; is.as_slice(), want.as_bytes());
+    Ok(())
+}
+
+// The generation that a script's text makes in an empty region of 4,096 words.
+fn generation(alloc: Global, text: &str) -> Result<Option<Frozen>, AllocError> {
+    match Script::parse(alloc, text.as_bytes()) {
+        Ok(script) => {
+            let mut port = PlainPort::new(alloc, 4096)?;
+            let _replies = run_in_turn(alloc, &mut port, None, &script, &NoGate)?;
+            let contents = port.contents()?;
+            Ok(Frozen::of_contents(alloc, &contents, 4096).ok())
+        }
+        Err(_) => Ok(None),
+    }
+}
+
+// The output of a script's text in an empty region over a generation, and no bytes where it is none.
+fn output_over(alloc: Global, up: &Frozen, text: &str) -> Result<Vec<u8>, AllocError> {
+    match Script::parse(alloc, text.as_bytes()) {
+        Ok(script) => {
+            let mut port = PlainPort::new(alloc, 4096)?.under(up);
+            let replies = run_in_turn(alloc, &mut port, Some(up), &script, &NoGate)?;
+            render(alloc, &script, &replies)
+        }
+        Err(_) => Ok(Vec::new(alloc)),
+    }
+}
+
+#[test]
+fn what_only_the_upstream_has_is_found(rt: HostRuntime) -> Result<(), Fail> {
+    let alloc = rt.alloc();
+    let text = "session\nstore t:x\nstore t:y %1\nput action:k %2\nstore t:hello\nput action:l %4\n";
+    let up = generation(alloc, text)?.expect(&rt, "it fits");
+    let text = format!(in alloc;
+        "session\nload {Y_OVER_X}\nload {X}\nget action:k\nget action:l\nload {HELLO}\nload {Y}\nget action:m\n"
+    )?;
+    let is = output_over(alloc, &up, text.as_str())?;
+    let want = format!(in alloc;
+        "0.1 found x:79 {X}\n0.2 found x:78\n0.3 hit {Y_OVER_X}\n0.4 hit {HELLO}\n0.5 found x:68656c6c6f\n0.6 missing\n0.7 miss\n"
+    )?;
+    assert_eq!(rt; is.as_slice(), want.as_bytes());
+    Ok(())
+}
+
+#[test]
+fn a_key_of_the_upstream_keeps_its_value(rt: HostRuntime) -> Result<(), Fail> {
+    let alloc = rt.alloc();
+    let text = "session\nstore t:x\nstore t:y %1\nput action:k %2\n";
+    let up = generation(alloc, text)?.expect(&rt, "it fits");
+    let text = format!(in alloc;
+        "session\nstore t:y\nput action:k %1\nact action:k t:hello\nsession\nstore - {Y_OVER_X}\n"
+    )?;
+    let is = output_over(alloc, &up, text.as_str())?;
+    let want = format!(in alloc;
+        "0.1 stored {Y}\n0.2 poisoned {Y} {Y_OVER_X}\n0.3 hit {Y_OVER_X}\n1.1 stored {TOP}\n"
     )?;
     assert_eq!(rt; is.as_slice(), want.as_bytes());
     Ok(())

@@ -1,5 +1,5 @@
 // The calls of one session, one after another.
-ghost use Rattle.std.specs.Prelude.{◌≡◌, ◌+◌, ◌<◌, ◌≤◌, ◌^◌, ◌∷◌, ◌++◌, [], None, length, IfOk, OnOk, OnErr};
+ghost use Rattle.std.specs.Prelude.{◌≡◌, ◌+◌, ◌<◌, ◌≤◌, ◌^◌, ◌∷◌, ◌++◌, [], length, IfOk, OnOk, OnErr};
 ghost use Rattle.cas_history.specs.Script.{Action};
 ghost use Rattle.cas_model.specs.declared.call.Call.TheVariants.{Store, Load, Put, Get};
 ghost use Rattle.cell_port.specs.Calls.{IsLawful};
@@ -35,8 +35,7 @@ impl<G: Gate> Turn<'_, G> {
         line: &Line,
         replies: &mut Vec<Reply>,
     ) -> Result<(), AllocError>
-        requires alone { self.now.unified.up ≡ None }
-        requires ready { IsReady (P.view port.old) self.now.session }
+        requires ready { IsReady self.now.unified (P.view port.old) self.now.session }
         requires few { length replies.old.items < 2 ^ 31 }
         requires fits { FitsLine line.now }
         ensures ok { OnOk result (HasRunFrom self.now.session (before_line (history_line line.now)) 3 replies.old.items (P.view port.old) replies.new.items (P.view port.new)) }
@@ -75,8 +74,7 @@ impl<G: Gate> Turn<'_, G> {
         data: &[u8],
         replies: &mut Vec<Reply>,
     ) -> Result<(), AllocError>
-        requires alone { self.now.unified.up ≡ None }
-        requires ready { IsReady (P.view port.old) self.now.session }
+        requires ready { IsReady self.now.unified (P.view port.old) self.now.session }
         requires few { length replies.old.items < 2 ^ 31 }
         requires few_refs { length refs.now ≤ 65535 }
         requires short { length «data».now ≤ 16777215 }
@@ -100,8 +98,7 @@ impl<G: Gate> Turn<'_, G> {
         data: &[u8],
         replies: &mut Vec<Reply>,
     ) -> Result<(), AllocError>
-        requires alone { self.now.unified.up ≡ None }
-        requires ready { IsReady (P.view port.old) self.now.session }
+        requires ready { IsReady self.now.unified (P.view port.old) self.now.session }
         requires few { length replies.old.items < 2 ^ 31 + 1 }
         requires few_refs { length refs.now ≤ 65535 }
         requires short { length «data».now ≤ 16777215 }
@@ -128,8 +125,7 @@ impl<G: Gate> Turn<'_, G> {
         data: &[u8],
         replies: &mut Vec<Reply>,
     ) -> Result<Said, AllocError>
-        requires alone { self.now.unified.up ≡ None }
-        requires ready { IsReady (P.view port.old) self.now.session }
+        requires ready { IsReady self.now.unified (P.view port.old) self.now.session }
         requires few { length replies.old.items < 2 ^ 32 }
         requires few_refs { length refs.now ≤ 65535 }
         requires short { length «data».now ≤ 16777215 }
@@ -139,7 +135,7 @@ impl<G: Gate> Turn<'_, G> {
     {
         let who = self.next(replies.as_slice());
         self.gate.before(who);
-        let reply = self.unified.store(port, who, refs, data);
+        let reply = self.unified.store(self.alloc, port, who, refs, data);
         self.gate.after(who);
         keep(replies, reply?)
     }
@@ -150,8 +146,7 @@ impl<G: Gate> Turn<'_, G> {
         digest: &Digest,
         replies: &mut Vec<Reply>,
     ) -> Result<Said, AllocError>
-        requires alone { self.now.unified.up ≡ None }
-        requires ready { IsReady (P.view port.old) self.now.session }
+        requires ready { IsReady self.now.unified (P.view port.old) self.now.session }
         requires few { length replies.old.items < 2 ^ 32 }
         ensures ok { IfOk result (λ said. HasMade self.now.session (Load digest.now) replies.old.items (P.view port.old) said replies.new.items (P.view port.new)) }
         ensures err { OnErr result (IsCutOff self.now.session (Load digest.now) replies.old.items (P.view port.old) (P.view port.new)) }
@@ -171,8 +166,7 @@ impl<G: Gate> Turn<'_, G> {
         value: &Digest,
         replies: &mut Vec<Reply>,
     ) -> Result<Said, AllocError>
-        requires alone { self.now.unified.up ≡ None }
-        requires ready { IsReady (P.view port.old) self.now.session }
+        requires ready { IsReady self.now.unified (P.view port.old) self.now.session }
         requires few { length replies.old.items < 2 ^ 32 }
         ensures ok { IfOk result (λ said. HasMade self.now.session (Put key.now value.now) replies.old.items (P.view port.old) said replies.new.items (P.view port.new)) }
         ensures err { OnErr result (IsCutOff self.now.session (Put key.now value.now) replies.old.items (P.view port.old) (P.view port.new)) }
@@ -180,7 +174,7 @@ impl<G: Gate> Turn<'_, G> {
     {
         let who = self.next(replies.as_slice());
         self.gate.before(who);
-        let reply = self.unified.put(port, who, key, value);
+        let reply = self.unified.put(self.alloc, port, who, key, value);
         self.gate.after(who);
         keep(replies, reply?)
     }
@@ -191,8 +185,7 @@ impl<G: Gate> Turn<'_, G> {
         key: &Digest,
         replies: &mut Vec<Reply>,
     ) -> Result<Said, AllocError>
-        requires alone { self.now.unified.up ≡ None }
-        requires ready { IsReady (P.view port.old) self.now.session }
+        requires ready { IsReady self.now.unified (P.view port.old) self.now.session }
         requires few { length replies.old.items < 2 ^ 32 }
         ensures ok { IfOk result (λ said. HasMade self.now.session (Get key.now) replies.old.items (P.view port.old) said replies.new.items (P.view port.new)) }
         ensures err { OnErr result (IsCutOff self.now.session (Get key.now) replies.old.items (P.view port.old) (P.view port.new)) }
@@ -200,7 +193,7 @@ impl<G: Gate> Turn<'_, G> {
     {
         let who = self.next(replies.as_slice());
         self.gate.before(who);
-        let reply = self.unified.get(port, who, key);
+        let reply = self.unified.get(self.alloc, port, who, key);
         self.gate.after(who);
         keep(replies, reply?)
     }

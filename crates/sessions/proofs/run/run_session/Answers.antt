@@ -9,7 +9,7 @@ pub loop-line-init : goal.loop-line-init
 loop-line-init g c = rw c.new-replies.ensures.items (lines-none _ _ _ c.requires.unseen)
 
 pub run_line-requires-clause-ready : goal.run_line-requires-clause-ready
-run_line-requires-clause-ready g c = lines-ready _ _ _ _ (g.P.CellPort.view c.args.port.now) _ c.requires.upstream c.requires.unseen c.loop-line.invariant
+run_line-requires-clause-ready g c = lines-ready _ _ _ _ _ (g.P.CellPort.view c.args.port.now) _ c.requires.upstream c.requires.unseen c.loop-line.invariant
 
 pub run_line-requires-clause-few : goal.run_line-requires-clause-few
 run_line-requires-clause-few g c =
