@@ -206,6 +206,7 @@ upkeep-may Prune dir options old new given quiet free readable h = elim h [
 upkeep-may (Once command) dir options old new given quiet free readable h = absurd h
 upkeep-may Batch dir options old new given quiet free readable h = absurd h
 upkeep-may (Workload rounds) dir options old new given quiet free readable h = absurd h
+
 written-later : (number : ℕ) (due : Option (Vec ℕ Global)) (old new : FolderView) → IsPut number due old new → old.faults ≤ new.faults
 written-later number None old new put = let same = ap (λ (v : FolderView). v.faults) put in omega (arith, same)
 written-later number (Some image) old new put = put.later.faults
@@ -303,7 +304,7 @@ module _ (words : List (String Global)) (before after : World) (front : Front) (
           denied-may h.request.task before.outside.source after.outside.source task.work run.has.replies (fin.len closed.objects) (fin.len closed.cache) given task.is_work
           (prepares-denied words before.outside after.outside front given h)
           (subst (λ (o : Output). Reports task.work.report task.work.script run.has.replies (fin.len closed.objects) (fin.len closed.cache) o) (sym run.is) run.has.is.reports)
-      | inr upkeep ↦ absurd (upkeep-text h.request.task (string_bytes h.dir) (first_size h.request.options) before.outside.folder after.outside.folder given upkeep.prepares)
+      | inr upkeep ↦ absurd (upkeep-text h.request.task (string_bytes h.dir) h.request.options before.outside.folder after.outside.folder given upkeep.prepares)
     ];
   }
 

@@ -118,7 +118,7 @@ prepares-short words before after front full h = elim h.is [
         short = reported-short task.work.report run.opened.primary run.opened.up task.work.script run.has.replies (fin.len closed.objects) (fin.len closed.cache) front full run.has.answered
             (subst (λ (o : Output). Reports task.work.report task.work.script run.has.replies (fin.len closed.objects) (fin.len closed.cache) o) (sym run.is) run.has.is.reports);
       }
-  | inr upkeep ↦ absurd (upkeep-text h.request.task (string_bytes h.dir) (first_size h.request.options) before.folder after.folder (Full full) upkeep.prepares)
+  | inr upkeep ↦ absurd (upkeep-text h.request.task (string_bytes h.dir) h.request.options before.folder after.folder (Full full) upkeep.prepares)
 ]
 
 full-cause : (words : List (String Global)) (before after : World) (front : Front) (given : Answer) → Because words before after front given → HasCause front given

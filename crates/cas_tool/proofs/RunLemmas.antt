@@ -187,6 +187,7 @@ never-upkeep Prune dir options old new given end h = elim h [
 never-upkeep (Once command) dir options old new given end h = h
 never-upkeep Batch dir options old new given end h = h
 never-upkeep (Workload rounds) dir options old new given end h = h
+
 never-saving : (number : ℕ) (images : Images) (old new : FolderView) (given : Answer) → IsEnd given → SavingStops number images old new given → ⊥
 never-saving number images old new given end h = elim h [ inl saving ↦ never-save saving.error given end saving.is | inr rotating ↦ never-save rotating.stops.error given end rotating.stops.is ]
 
@@ -258,6 +259,7 @@ of-upkeep Prune dir options old new given of h = elim h [
 of-upkeep (Once command) dir options old new given of h = h
 of-upkeep Batch dir options old new given of h = h
 of-upkeep (Workload rounds) dir options old new given of h = h
+
 of-saving : (number : ℕ) (images : Images) (old new : FolderView) (given : Answer) → IsOfReply given → SavingStops number images old new given → ⊥
 of-saving number images old new given of h = elim h [ inl saving ↦ of-save saving.error given of saving.is | inr rotating ↦ of-save rotating.stops.error given of rotating.stops.is ]
 

@@ -96,10 +96,7 @@ impl<G: Gate> Running<'_, G> {
     }
 
     // Runs the sessions over this port, whose upstream is the one that there is, if any.
-    fn run<U: Upstream>(
-        &self,
-        mut port: PlainPort<'_, U>,
-    ) -> (Events, Result<Made, AllocError>)
+    fn run<U: Upstream>(&self, mut port: PlainPort<'_, U>) -> (Events, Result<Made, AllocError>)
         requires at { IsOpenedAt U.state (upstream_state (option_copied self.now.up)) self.now.opened.now.tables port }
         requires digests { HasOwnDigests (upstream_state (option_copied self.now.up)) }
         requires fits { FitsScript self.now.work.now.script }

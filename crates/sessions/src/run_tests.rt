@@ -155,7 +155,8 @@ fn output_over(alloc: Global, up: &Frozen, text: &str) -> Result<Vec<u8>, AllocE
 #[test]
 fn what_only_the_upstream_has_is_found(rt: HostRuntime) -> Result<(), Fail> {
     let alloc = rt.alloc();
-    let text = "session\nstore t:x\nstore t:y %1\nput action:k %2\nstore t:hello\nput action:l %4\n";
+    let text =
+        "session\nstore t:x\nstore t:y %1\nput action:k %2\nstore t:hello\nput action:l %4\n";
     let up = generation(alloc, text)?.expect(&rt, "it fits");
     let text = format!(in alloc;
         "session\nload {Y_OVER_X}\nload {X}\nget action:k\nget action:l\nload {HELLO}\nload {Y}\nget action:m\n"
