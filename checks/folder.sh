@@ -75,6 +75,19 @@ expect 'what just fits is stored' 0 '' sh -c '"$0" --cas least.d --make-blob --s
 [ "$(wc -c <least.d/v1.1)" = 32800 ] || { echo "DIFFERS: $(wc -c <least.d/v1.1) bytes"; bad=1; }
 expect 'a region keeps its size' 7 'llvm-cas: full 4096 5 4096' sh -c 'printf x | "$0" --cas least.d --make-blob --size 5000' "$tool"
 
+# That store went on in a new generation. What is used again is brought over, and what no command reads is removed.
+expect 'a full store goes on' 0 '' "$tool" --cas least.d --validate
+[ "$(cat out)" = "$(printf 'valid v1.2 0 0\nvalid v1.1 1 0')" ] || { echo "DIFFERS: $(cat out)"; bad=1; }
+id=llvmcas://5e84e38fa5859903b5ea9bd2ab722b60342cfd82454c2f73756bdd15eb794887
+expect 'what is used again is brought over' 0 '' "$tool" --cas least.d --cat-node-data --limit 0 $id
+cmp -s out least || { echo 'DIFFERS: what was brought over'; bad=1; }
+expect 'and kept in the generation below the next' 0 '' "$tool" --cas least.d --validate
+[ "$(cat out)" = "$(printf 'valid v1.3 0 0\nvalid v1.2 1 0')" ] || { echo "DIFFERS: $(cat out)"; bad=1; }
+expect 'what no command reads is removed' 0 '' "$tool" --cas least.d --prune
+[ "$(cat out)" = 'pruned 1' ] && [ ! -e least.d/v1.1 ] && [ -e least.d/v1.2 ] || { echo "DIFFERS: $(cat out)"; bad=1; }
+expect 'and nothing that is read' 0 '' "$tool" --cas least.d --cat-node-data $id
+cmp -s out least || { echo 'DIFFERS: what was left'; bad=1; }
+
 blob full hello >/dev/null
 got=0
 printf more | "$tool" --cas full --make-blob >/dev/full 2>err || got=$?
