@@ -1,6 +1,6 @@
 // What a check of the folder's images tells.
 ghost use Rattle.std.specs.Prelude.{◌≡◌, ◌++◌, IfOk, OnOk};
-ghost use Rattle.cas_tool.specs.Validation.{primary_line, upstream_line, valid_line, valid_lines};
+ghost use Rattle.cas_tool.specs.Validation.{valid_line, valid_lines};
 
 use frozen_store::Counts;
 use generations::Opened;
