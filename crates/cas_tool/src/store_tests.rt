@@ -233,22 +233,28 @@ fn other_names_are_ignored(rt: HostRuntime) -> Result<(), Fail> {
     Ok(())
 }
 
-// A folder with generations of these numbers, of whose calls these fail. Only that of the two highest is an image.
-fn folder_with(rt: &HostRuntime, calls: &[u64], held: &[u64]) -> Result<MemFolder, Fail>
+// A folder with two generations that are read and three that are not, of whose calls these fail, and these find the
+// lock held.
+fn folder_with(rt: &HostRuntime, failing: &[u64], held: &[u64]) -> Result<MemFolder, Fail>
     ensures { IfOk result (λ folder. folder.asked ≡ None) }
 {
     let image = image_with(rt, b"hello")?;
-    let mut folder = MemFolder::new(calls.to_vec(rt.alloc())?, held.to_vec(rt.alloc())?);
-    for name in [b"v1.12".as_slice(), b"v1.9".as_slice()] {
-        folder.set_file(name, &image)?;
-    }
-    for name in [b"v1.1".as_slice(), b"v1.2".as_slice(), b"v1.8".as_slice()] {
-        folder.set_file(name, b"any")?;
-    }
-    for name in [b"v1.0".as_slice(), b"v1.01".as_slice(), b"notes".as_slice()] {
-        folder.set_file(name, b"any")?;
-    }
+    let mut folder = MemFolder::new(failing.to_vec(rt.alloc())?, held.to_vec(rt.alloc())?);
+    folder.set_file(b"v1.12", &image)?;
+    folder.set_file(b"v1.9", &image)?;
+    folder.set_file(b"v1.8", b"any")?;
+    folder.set_file(b"v1.2", b"any")?;
+    folder.set_file(b"v1.1", b"any")?;
+    folder.set_file(b"v1.01", b"any")?;
+    folder.set_file(b"notes", b"any")?;
     Ok(folder)
+}
+
+// Whether the folder has the three generations that are not read, from the lowest.
+fn unused_in(folder: &MemFolder) -> [bool; 3] {
+    [b"v1.1".as_slice(), b"v1.2".as_slice(), b"v1.8".as_slice()].map(|name| folder
+        .file(name)
+        .is_some())
 }
 
 #[test]
@@ -256,43 +262,41 @@ fn unused_generations_are_removed(rt: HostRuntime) -> Result<(), Fail> {
     let mut folder = folder_with(&rt, &[], &[])?;
     let pruned = run_in(&rt, &mut folder, &["--prune"], b"")?;
     assert!(rt; pruned.ended(0, b"pruned 3\n"));
-    for name in [b"v1.1".as_slice(), b"v1.2".as_slice(), b"v1.8".as_slice()] {
-        assert!(rt; folder.file(name).is_none());
-    }
-    for name in [b"v1.12".as_slice(), b"v1.9".as_slice(), b"v1.0".as_slice()] {
-        assert!(rt; folder.file(name).is_some());
-    }
-    for name in [b"v1.01".as_slice(), b"notes".as_slice()] {
-        assert!(rt; folder.file(name).is_some());
-    }
+    assert_eq!(rt; unused_in(&folder), [false, false, false]);
+    assert!(rt; folder.file(b"v1.01").is_some());
+    assert!(rt; folder.file(b"notes").is_some());
+    let valid = run_in(&rt, &mut folder, &["--validate"], b"")?;
+    assert!(rt; valid.ended(0, b"valid v1.12 1 0\nvalid v1.9 1 0\n"));
     let words = ["--prune", "--limit", "0", "--workers", "2"];
     let again = run_in(&rt, &mut folder, &words, b"")?;
     assert!(rt; again.ended(0, b"pruned 0\n"));
-    let none = run_in(&rt, &mut fresh_folder(rt.alloc()), &["--prune"], b"")?;
+    let mut fresh = fresh_folder(rt.alloc());
+    let none = run_in(&rt, &mut fresh, &["--prune"], b"")?;
     assert!(rt; none.ended(0, b"pruned 0\n"));
     Ok(())
 }
 
 #[test]
 fn a_fault_leaves_what_is_not_removed_yet(rt: HostRuntime) -> Result<(), Fail> {
-    // A removal enters, locks, lists, and removes the lowest first.
-    let lefts: [(u64, usize); 6] = [(1, 3), (2, 3), (3, 3), (4, 3), (5, 2), (6, 1)];
-    for (call, left) in lefts {
+    // A removal enters, locks and lists, and then removes the lowest first.
+    let cases: [(u64, [bool; 3]); 6] = [
+        (1, [true, true, true]),
+        (2, [true, true, true]),
+        (3, [true, true, true]),
+        (4, [true, true, true]),
+        (5, [false, true, true]),
+        (6, [false, false, true]),
+    ];
+    for (call, left) in cases {
         let mut folder = folder_with(&rt, &[call], &[])?;
         let ran = run_in(&rt, &mut folder, &["--prune"], b"")?;
         assert_eq!(rt; (ran.status, ran.answer), (5, Answer::FolderFault));
         assert_eq!(rt; ran.sink.written().len(), 0);
-        let mut there = 0;
-        for name in [b"v1.1".as_slice(), b"v1.2".as_slice(), b"v1.8".as_slice()] {
-            if folder.file(name).is_some() {
-                there += 1;
-            }
-        }
-        assert_eq!(rt; there, left);
+        assert_eq!(rt; unused_in(&folder), left);
     }
     let mut held = folder_with(&rt, &[], &[2])?;
     let ran = run_in(&rt, &mut held, &["--prune"], b"")?;
     assert_eq!(rt; (ran.status, ran.answer), (11, Answer::Held));
-    assert!(rt; held.file(b"v1.1").is_some());
+    assert_eq!(rt; unused_in(&held), [true, true, true]);
     Ok(())
 }
