@@ -18,7 +18,7 @@ use std::alloc::{AllocError, Global};
 /// one, and answers the reply of each call.
 ///
 /// Sessions and the calls of a session are numbered from 0. The gate stands round each call. The rules of a script's lines
-/// are this project's own. An error is want of memory, of the port or for a reply.
+/// are this project's own. An error is want of memory: of the port, for what is loaded or brought in, or for a reply.
 pub fn run_in_turn<P: CellPort, G: Gate>(
     alloc: Global,
     port: &mut P,

@@ -28,6 +28,7 @@ const THREE: &str = "llvmcas://379e66ad4339b5922043a2751bb423e26415a08c0c9f0c95a
 const Y_OVER_X: &str = "llvmcas://7fd124711ae138f0040aca4e77516be5830ab274980c15d2b874afa0c1ea3481";
 
 const TOP: &str = "llvmcas://48eacd478eb0dd0d666a94af51c977676b02c61462e548845a659a882a0c05b9";
+
 // The id of 32 zero bytes, which no object has.
 const ZERO: &str = "llvmcas://0000000000000000000000000000000000000000000000000000000000000000";
 
