@@ -39,35 +39,36 @@ use Rattle.graph_db.specs.Stores.{ref_note}
 use Rattle.graph_db.proofs.Steps.{are-foreign, goes-speaks, goes-upstream, goes-takes, reads-goes, ends-then, asked-readings}
 use Rattle.graph_db.proofs.Sought as graph
 use Rattle.graph_db.proofs.Found.{sought-ends, sought-last, missed-here, found-here, goes-grows, not-zero-test}
-use Rattle.action_cache.specs.Keys.{MaySeekKey, MayKeep, AreOfKey, GoesOnKey, HasSoughtKey, KeyStops, KeepStops, Settles}
-use Rattle.action_cache.specs.Gets.{HasHit, HasMissed, GetStops}
+use Rattle.action_cache.specs.Keys.{MaySeekKey, MayKeep, AreOfKey, GoesOnKey, FindsKey, HasFoundKey, HasSoughtKey, KeyStops, KeepStops, Settles}
+use Rattle.action_cache.specs.Gets.{HasGot, HasHit, HasMissed, GetStops}
 use Rattle.action_cache.specs.Puts.{HasKept, IsRefused, HasValue, ValueStops}
 use Rattle.action_cache.specs.Brings.{deep_note, AreDeepLooks, LooksThenKeeps, HasBrought, BringStops}
 use Rattle.action_cache.proofs.KeySteps.{key-goes, key-more}
-use Rattle.action_cache.proofs.KeyKept.{kept-there, key-missed, sought-says}
+use Rattle.action_cache.proofs.KeyKept.{kept-there, key-missed, positive, sought-says}
 
 -- ---- get
 
-pub has-hit : (who : Who) (key : Digest) (old mid new : View) (cell : ℕ) (value : Digest) → IsLawful old mid → (cell ≡ 0 → ⊥) → HasSoughtKey who key old mid cell → value ≡ digest_at (tables mid).bound cell → new ≡ mid
-    → HasHit who key old new value
-has-hit who key old mid new cell value lawful not-none h is same =
-    let some : 0 < cell = positive cell not-none in
-    let says = sought-says who key old mid cell not-none h (Get key) in
-    subst (λ (v : View). HasHit who key old v value) (sym same) (subst (λ (d : Digest). HasHit who key old mid d) (sym is) (record {
-      there = kept-there (tables mid) key cell (sound-run mid.upstream mid.start mid.seen lawful.is) some h.value_is;
+pub found-key : (who : Who) (key : Digest) (old mid new : View) (cell : ℕ) (kept : Digest) → (cell ≡ 0 → ⊥) → HasSoughtKey who key old mid cell → kept ≡ digest_at (tables mid).bound cell → new ≡ mid
+    → HasFoundKey who key old new kept
+found-key who key old mid new cell kept some h is same =
+    subst (λ (v : View). HasFoundKey who key old v kept) (sym same) (record { cell = cell; some = some; sought = h; names = is })
+
+has-hit : (who : Who) (key : Digest) (old new : View) (value : Digest) → IsLawful old new → HasFoundKey who key old new value → HasHit who key old new value
+has-hit who key old new value lawful found =
+    let h = found.sought in
+    let says = sought-says who key old new found.cell found.some h (Get key) in
+    subst (λ (d : Digest). HasHit who key old new d) (sym found.names) (record {
+      there = kept-there (tables new) key found.cell (sound-run new.upstream new.start new.seen lawful.is) (positive found.cell found.some) h.value_is;
       reads = h.reads;
       ends = record {
-        goes = reads-goes who old mid h.reads;
-        stands = λ calls known opens. subst (λ (r : Option Reply). Stands mid.upstream mid.start calls who (Get key) r mid.seen) says (h.stands calls (Get key) known ((refl, refl), tt) opens);
+        goes = reads-goes who old new h.reads;
+        stands = λ calls known opens. subst (λ (r : Option Reply). Stands new.upstream new.start calls who (Get key) r new.seen) says (h.stands calls (Get key) known ((refl, refl), tt) opens);
         cost = let e = h.cost in omega (arith, e);
       };
       last = record { act = h.act; earlier = h.earlier; is = h.is; decides = says };
-    })) where
-      positive : (n : ℕ) → (n ≡ 0 → ⊥) → 0 < n
-      positive zero no_ = absurd (no_ refl)
-      positive (suc n) no_ = omega arith
+    })
 
-pub has-missed : (who : Who) (key : Digest) (old new : View) → HasSoughtKey who key old new 0 → HasMissed who key old new
+has-missed : (who : Who) (key : Digest) (old new : View) → HasSoughtKey who key old new 0 → HasMissed who key old new
 has-missed who key old new h =
     let up : new.upstream ≡ old.upstream = goes-upstream who old new (reads-goes who old new h.reads) in
     let says : decided new.upstream (tables_after new.start h.earlier) (Get key) Key h.act ≡ reply_where (is_none (fin.get old.upstream.cache key)) reply.Miss =
@@ -84,6 +85,10 @@ has-missed who key old new h =
       last = record { act = h.act; earlier = h.earlier; is = h.is; decides = says };
       missed = key-missed who key old new h;
     }
+
+pub has-got : (who : Who) (key : Digest) (old new : View) (found : Option Digest) → IsLawful old new → FindsKey who key old new found → HasGot who key old new found
+has-got who key old new None lawful h = has-missed who key old new h
+has-got who key old new (Some value) lawful h = has-hit who key old new value lawful h
 
 pub get-stops : (who : Who) (key : Digest) (old new : View) → KeyStops who key old new → GetStops who key old new
 get-stops who key old new h = record {

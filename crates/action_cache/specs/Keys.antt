@@ -75,6 +75,18 @@ pub record HasSoughtKey (who : Who) (key : Digest) (old new : View) (value : ℕ
   pub stands : (calls : Who → Option Call) (call : Call) → calls who ≡ Some call → MaySeekKey old who call key → CallOpen old.upstream old.start calls who old.seen
       → Stands new.upstream new.start calls who call (decided new.upstream (tables_after new.start earlier) call Key act) new.seen
 
+-- the key's cell is filled, with the place of the record that has this digest
+pub record HasFoundKey (who : Who) (key : Digest) (old new : View) (kept : Digest) : Type 0 where
+  pub cell : ℕ
+  pub some : cell ≡ 0 → ⊥
+  pub sought : HasSoughtKey who key old new cell
+  pub names : kept ≡ digest_at (tables new).bound cell
+
+-- the value that the key was found to have, none where its cell is not filled
+abbrev pub FindsKey : Who → Digest → View → View → Option Digest → Type 0
+FindsKey who key old new None = HasSoughtKey who key old new 0
+FindsKey who key old new (Some kept) = HasFoundKey who key old new kept
+
 -- the port wanted memory, and nothing is decided
 pub record KeyStops (who : Who) (key : Digest) (old new : View) : Type 0 where
   pub takes : IsTrue old.takes_memory

@@ -3,6 +3,7 @@ ghost use Rattle.std.specs.Prelude.{◌≡◌, IfOk, OnErr};
 ghost use Rattle.cell_port.specs.Calls.{IsLawful};
 ghost use Rattle.graph_db.specs.Events.{SpeaksFor};
 ghost use Rattle.action_cache.specs.Gets.{HasGot, GetStops};
+ghost use Rattle.action_cache.specs.Keys.{FindsKey, KeyStops};
 
 use crate::keeping::seek_key;
 use cas_model::{Digest, Place, Who};
@@ -19,10 +20,25 @@ pub fn get<P: CellPort>(port: &mut P, who: Who, key: &Digest) -> Result<Option<D
     ensures err { OnErr result (GetStops who key.now (P.view port.old) (P.view port.new)) }
     ensures lawful { IsLawful (P.view port.old) (P.view port.new) }
 {
-    get_counted::<Brand, P>(port, who, key, Blank::new(1))
+    find_key(port, who, key)
 }
 
-fn get_counted<L: Ledger, P: CellPort>(
+/// Looks for a key for any call that may: its value, and None exactly where the primary has none. A crate that brings keys
+/// in asks this before it does. An error comes only from the port.
+pub fn find_key<P: CellPort>(
+    port: &mut P,
+    who: Who,
+    key: &Digest,
+) -> Result<Option<Digest>, AllocError>
+    requires { SpeaksFor (P.view port.old) who }
+    ensures ok { IfOk result (FindsKey who key.now (P.view port.old) (P.view port.new)) }
+    ensures err { OnErr result (KeyStops who key.now (P.view port.old) (P.view port.new)) }
+    ensures lawful { IsLawful (P.view port.old) (P.view port.new) }
+{
+    find_key_counted::<Brand, P>(port, who, key, Blank::new(1))
+}
+
+fn find_key_counted<L: Ledger, P: CellPort>(
     port: &mut P,
     who: Who,
     key: &Digest,
@@ -32,8 +48,8 @@ fn get_counted<L: Ledger, P: CellPort>(
     requires parts { blank.parts ≡ L.parts }
     requires one { blank.parts ≡ 1 }
     requires speaks { SpeaksFor (P.view port.old) who }
-    ensures ok { IfOk result (HasGot who key.now (P.view port.old) (P.view port.new)) }
-    ensures err { OnErr result (GetStops who key.now (P.view port.old) (P.view port.new)) }
+    ensures ok { IfOk result (FindsKey who key.now (P.view port.old) (P.view port.new)) }
+    ensures err { OnErr result (KeyStops who key.now (P.view port.old) (P.view port.new)) }
     ensures lawful { IsLawful (P.view port.old) (P.view port.new) }
 {
     let mut steps: Steps<L> = Steps::new(blank);

@@ -7,5 +7,5 @@ mod putting;
 #[cfg(test)]
 mod tests;
 
-pub use getting::get;
+pub use getting::{find_key, get};
 pub use putting::{bring, put};

@@ -1,4 +1,4 @@
-// Trees brought in over a plain port: an absent digest, and an object whose leaf is reached over two references.
+// Trees brought in over a plain port: an absent digest, and trees of several shapes.
 ghost use Rattle.std.specs.Prelude.{◌≤◌, length};
 
 use crate::fault_in;
@@ -10,6 +10,9 @@ use std::alloc::{AllocError, Global};
 use std::test::Fail;
 
 const ABSENT: Digest = Digest { bytes: [0; 32] };
+
+/// The size of a region with room for a thousand objects, in words.
+const LARGE: u64 = 65_536;
 
 fn call(index: u32) -> Who {
     Who { session: 0, index }
@@ -96,5 +99,83 @@ fn a_tree_is_brought_in(rt: HostRuntime) -> Result<(), Fail> {
         Ok(true)
     );
     assert!(rt; has_tree(&mut port, &tree)?);
+    Ok(())
+}
+
+// What is left in a port after a tree was brought into it from the closed region of another one: how many objects.
+fn brought(
+    alloc: Global,
+    origin: &PlainPort<'_, NoUpstream>,
+    root: &Digest,
+) -> Result<Option<usize>, AllocError> {
+    let contents = origin.contents()?;
+    let Ok(up) = Frozen::of_contents(alloc, &contents, LARGE) else {
+        return Ok(None);
+    };
+    let mut port = PlainPort::new(alloc, LARGE)?.under(&up);
+    match fault_in(alloc, &mut port, call(0), &up, root) {
+        Ok(true) => Ok(Some(port.contents()?.objects.len())),
+        _ => Ok(None),
+    }
+}
+
+// A leaf, two nodes that name it, and a top that names both.
+fn store_diamond<'u>(port: &mut PlainPort<'u, NoUpstream>) -> Result<Digest, StoreError> {
+    let leaf = store_in(port, 0, &[], b"leaf")?;
+    let left = store_in(port, 1, &[leaf], b"left")?;
+    let right = store_in(port, 2, &[leaf], b"right")?;
+    store_in(port, 3, &[left, right], b"top")
+}
+
+// A chain of so many objects, each of which names the one before it.
+fn store_chain<'u>(
+    port: &mut PlainPort<'u, NoUpstream>,
+    count: u32,
+) -> Result<Digest, StoreError> {
+    let mut last = store_in(port, 0, &[], b"end")?;
+    for index in 1..count {
+        last = store_in(port, index, &[last], b"link")?;
+    }
+    Ok(last)
+}
+
+#[test]
+fn a_diamond_is_brought_in(rt: HostRuntime) -> Result<(), Fail> {
+    let mut origin = PlainPort::new(rt.alloc(), LARGE)?;
+    let top = store_diamond(&mut origin).expect(&rt, "it fits");
+    store_in(&mut origin, 4, &[top], b"above").expect(&rt, "it fits");
+    assert_eq!(rt; brought(rt.alloc(), &origin, &top)?, Some(4));
+    Ok(())
+}
+
+#[test]
+fn a_chain_of_1000_objects_is_brought_in(rt: HostRuntime) -> Result<(), Fail> {
+    let mut origin = PlainPort::new(rt.alloc(), LARGE)?;
+    let last = store_chain(&mut origin, 1_000).expect(&rt, "it fits");
+    assert_eq!(rt; brought(rt.alloc(), &origin, &last)?, Some(1_000));
+    Ok(())
+}
+
+// A node that names so many leaves, each of other data.
+fn store_wide<'u>(
+    alloc: Global,
+    port: &mut PlainPort<'u, NoUpstream>,
+    count: u16,
+) -> Result<Digest, StoreError> {
+    let mut leaves = Vec::new(alloc);
+    for leaf in 0..count {
+        let digest = store_in(port, u32::from(leaf), &[], leaf.to_le_bytes().as_slice())?;
+        if leaves.push(digest).is_err() {
+            return Err(StoreError::Memory);
+        }
+    }
+    store_in(port, u32::from(count), &leaves, b"wide")
+}
+
+#[test]
+fn a_node_with_300_references_is_brought_in(rt: HostRuntime) -> Result<(), Fail> {
+    let mut origin = PlainPort::new(rt.alloc(), LARGE)?;
+    let wide = store_wide(rt.alloc(), &mut origin, 300).expect(&rt, "it fits");
+    assert_eq!(rt; brought(rt.alloc(), &origin, &wide)?, Some(301));
     Ok(())
 }

@@ -11,7 +11,7 @@ use Rattle.cas_model.specs.declared.digest.Digest.{Digest}
 use Rattle.cas_model.specs.declared.note.Stage.TheVariants.{Key}
 use Rattle.cas_model.specs.Primary.{primary}
 use Rattle.cas_model.specs.State.{State, has}
-use Rattle.cas_model.specs.Tables.{Tables, digest_at}
+use Rattle.cas_model.specs.Tables.{Tables}
 use Rattle.cas_history.specs.Conduct.{AreThere, is_key, is_shallow, missed}
 use Rattle.cas_history.specs.History.{decided, decided_at, kept, reply_where}
 use Rattle.cas_history.specs.Run.{tables as tables_after}
@@ -33,11 +33,11 @@ use Rattle.graph_db.specs.Stores.{ref_note}
 use Rattle.graph_db.proofs.Found.{found-here, seek-stops, sought-ends, sought-last}
 use Rattle.graph_db.proofs.Steps.{goes-then, goes-upstream, reads-goes}
 use Rattle.action_cache.specs.Brings.{BringStops, HasBrought}
-use Rattle.action_cache.specs.Keys.{HasSoughtKey, KeyStops, MaySeekKey, key_note, kept_reply}
+use Rattle.action_cache.specs.Keys.{HasFoundKey, HasSoughtKey, KeyStops, MaySeekKey, key_note, kept_reply}
 use Rattle.action_cache.specs.Puts.{HasKept, IsRefused, LacksValue}
 use Rattle.action_cache.proofs.KeyKept.{key-missed, sought-says}
 use Rattle.generations.specs.Answers.{Answers, Stops}
-use Rattle.generations.specs.Over.{EndsEarly, FindsKey, FindsValue, HasFoundValue, HasKeptValue, HasTreeIn, IsAbsentValue, IsUnderWay, TreeStops, ValueStops, kept_as, misses_of}
+use Rattle.generations.specs.Over.{EndsEarly, FindsValue, HasFoundValue, HasTreeIn, IsAbsentValue, IsUnderWay, TreeStops, ValueStops, kept_as, misses_of}
 use Rattle.generations.specs.Upstream.{NeedsTree}
 use Rattle.generations.proofs.GetsOver.{brought-answers, brought-early}
 use Rattle.generations.proofs.UnderWay.{has-later, missed-key, needs-tree, there-later, under-answers, under-early, under-ended, under-self, under-stops, under-then, under-tree}
@@ -88,25 +88,31 @@ module _ (who : Who) (key value : Digest) (old new : View) where
 
 -- ---- looking for the key
 
-pub key-found : (who : Who) (key : Digest) (old mid new : View) (cell : ℕ) (had : Digest) → (cell ≡ 0 → ⊥) → HasSoughtKey who key old mid cell → had ≡ digest_at (tables mid).bound cell → new ≡ mid → HasKeptValue who key old new had
-key-found who key old mid new cell had some h is same =
-    subst (λ (v : View). HasKeptValue who key old v had) (sym same) (subst (λ (d : Digest). HasKeptValue who key old mid d) (sym is) (record {
+-- the key's value in the primary decides the put
+record HasKeptValue (who : Who) (key : Digest) (old new : View) (kept : Digest) : Type 0 where
+  ends : (value : Digest) → MaySeekKey old who (Put key value) key → Ends who (Put key value) (Some (reply.Kept kept)) old new 0
+  last : (value : Digest) → Last (key_note who) (Put key value) (Some (reply.Kept kept)) new
+
+key-found : (who : Who) (key : Digest) (old new : View) (kept : Digest) → HasFoundKey who key old new kept → HasKeptValue who key old new kept
+key-found who key old new kept found =
+    let h = found.sought in
+    subst (λ (d : Digest). HasKeptValue who key old new d) (sym found.names) (record {
       ends = λ value may. record {
-        goes = reads-goes who old mid h.reads;
+        goes = reads-goes who old new h.reads;
         stands = λ calls known opens.
-            subst (λ (r : Option Reply). Stands mid.upstream mid.start calls who (Put key value) r mid.seen) (sought-says who key old mid cell some h (Put key value)) (h.stands calls (Put key value) known may opens);
+            subst (λ (r : Option Reply). Stands new.upstream new.start calls who (Put key value) r new.seen) (sought-says who key old new found.cell found.some h (Put key value)) (h.stands calls (Put key value) known may opens);
         cost = let e = h.cost in omega (arith, e);
       };
-      last = λ value. record { act = h.act; earlier = h.earlier; is = h.is; decides = sought-says who key old mid cell some h (Put key value) };
-    }))
+      last = λ value. record { act = h.act; earlier = h.earlier; is = h.is; decides = sought-says who key old new found.cell found.some h (Put key value) };
+    })
 
 -- a put whose value is the upstream's or was found
 module _ (who : Who) (key value : Digest) (first mid : View) (under : IsUnderWay who (Put key value) first mid) (there : AreThere mid.upstream mid.start mid.seen who 0 (value ∷ [])) where
   may : MaySeekKey mid who (Put key value) key
   may = (there, (refl, refl), tt)
 
-  pub put-had : (new : View) (had : Digest) → HasKeptValue who key mid new had → Answers who (Put key value) (reply.Kept had) first new
-  put-had new had h = under-answers who (Put key value) (reply.Kept had) first mid new 0 (key_note who) under (h.ends value may) (omega arith) refl (h.last value)
+  pub put-had : (new : View) (had : Digest) → HasFoundKey who key mid new had → Answers who (Put key value) (reply.Kept had) first new
+  put-had new had found = let h = key-found who key mid new had found in under-answers who (Put key value) (reply.Kept had) first mid new 0 (key_note who) under (h.ends value may) (omega arith) refl (h.last value)
 
   pub key-stops : (new : View) → KeyStops who key mid new → Stops who (Put key value) first new
   key-stops new h =

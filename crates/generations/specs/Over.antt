@@ -26,7 +26,6 @@ use Rattle.graph_db.specs.Events.{Ends, Goes, Last, Reads, seen_state}
 use Rattle.graph_db.specs.Events as graph
 use Rattle.graph_db.specs.Parts.{IsLawfulOrSame}
 use Rattle.graph_db.specs.Stores.{object_with, ref_note}
-use Rattle.action_cache.specs.Keys.{HasSoughtKey, MaySeekKey, key_note}
 use Rattle.generations.specs.declared.storing.FoundRefs.{FoundRefs}
 use Rattle.generations.specs.declared.storing.FoundRefs.TheVariants.{All, Lacking, Absent}
 use Rattle.generations.specs.Answers.{Answers, Stops, LoadStops}
@@ -188,7 +187,7 @@ AnswersKnown who refs digest old new given = (bytes : List ℕ) → digest ≡ d
 abbrev pub KnownEndsEarly : Who → List Digest → Digest → View → View → FaultInError → Type 0
 KnownEndsEarly who refs digest old new error = (bytes : List ℕ) → digest ≡ digest_of refs bytes → EndsEarly who (Store (object_with refs bytes)) old new error
 
--- ---- the value and the key of a put
+-- ---- the value of a put
 
 -- the call of each key has only looked and read, and its value is the upstream's or was found
 pub record HasFoundValue (who : Who) (value : Digest) (old new : View) : Type 0 where
@@ -207,12 +206,3 @@ FindsValue who value old new false = IsAbsentValue who value old new
 -- memory was wanted by the port
 abbrev pub ValueStops : Who → Digest → View → View → Type 0
 ValueStops who value old new = (key : Digest) → graph.Stops who (Put key value) old new 0
-
--- the key's value in the primary decides the put
-pub record HasKeptValue (who : Who) (key : Digest) (old new : View) (kept : Digest) : Type 0 where
-  pub ends : (value : Digest) → MaySeekKey old who (Put key value) key → Ends who (Put key value) (Some (reply.Kept kept)) old new 0
-  pub last : (value : Digest) → Last (key_note who) (Put key value) (Some (reply.Kept kept)) new
-
-abbrev pub FindsKey : Who → Digest → View → View → Option Digest → Type 0
-FindsKey who key old new None = HasSoughtKey who key old new 0
-FindsKey who key old new (Some kept) = HasKeptValue who key old new kept

@@ -5,20 +5,17 @@ ghost use Rattle.cas_model.specs.Primary.{primary};
 ghost use Rattle.cas_model.specs.declared.call.Call.TheVariants.{Put, Get};
 ghost use Rattle.cell_port.specs.Calls.{IsLawful};
 ghost use Rattle.graph_db.specs.Events.{SpeaksFor};
-ghost use Rattle.action_cache.specs.Keys.{HasSoughtKey, KeyStops};
 ghost use Rattle.generations.specs.Answers.{Answers};
-ghost use Rattle.generations.specs.Over.{EndsEarly, FindsKey, FindsValue, HasTreeIn, TreeStops, ValueStops};
+ghost use Rattle.generations.specs.Over.{EndsEarly, FindsValue, HasTreeIn, TreeStops, ValueStops};
 
 use crate::replies::{has_object, kept, misses_known};
-use action_cache::{bring, get, put};
-use cas_model::{Digest, Note, Place, Reply, Space, Stage, Who};
-use cell_port::{CellPort, Steps};
+use action_cache::{bring, find_key, get, put};
+use cas_model::{Digest, Note, Reply, Stage, Who};
+use cell_port::CellPort;
 use fault_in::{FaultInError, fault_in};
 use frozen_store::Frozen;
-use graph_db::{holds, record_digest};
+use graph_db::holds;
 use std::alloc::{AllocError, Global};
-use std::marker::Brand;
-use std::sync::ledger::{Blank, Ledger};
 
 // Gets the value of a key. Where the upstream alone has the key, it is brought in with its value's tree.
 pub(crate) fn get_over<P: CellPort>(
@@ -146,61 +143,6 @@ fn finds_value<P: CellPort>(
         return Ok(true);
     }
     Ok(has_object(up, value))
-}
-
-// The value that a put's key has in the primary.
-fn find_key<P: CellPort>(port: &mut P, who: Who, key: &Digest) -> Result<Option<Digest>, AllocError>
-    requires { SpeaksFor (P.view port.old) who }
-    ensures ok { IfOk result (FindsKey who key.now (P.view port.old) (P.view port.new)) }
-    ensures err { OnErr result (KeyStops who key.now (P.view port.old) (P.view port.new)) }
-    ensures lawful { IsLawful (P.view port.old) (P.view port.new) }
-{
-    find_key_counted::<Brand, P>(port, who, key, Blank::new(1))
-}
-
-fn find_key_counted<L: Ledger, P: CellPort>(
-    port: &mut P,
-    who: Who,
-    key: &Digest,
-    blank: Blank,
-) -> Result<Option<Digest>, AllocError>
-    requires name { blank.name ≡ L.name }
-    requires parts { blank.parts ≡ L.parts }
-    requires one { blank.parts ≡ 1 }
-    requires speaks { SpeaksFor (P.view port.old) who }
-    ensures ok { IfOk result (FindsKey who key.now (P.view port.old) (P.view port.new)) }
-    ensures err { OnErr result (KeyStops who key.now (P.view port.old) (P.view port.new)) }
-    ensures lawful { IsLawful (P.view port.old) (P.view port.new) }
-{
-    let mut steps: Steps<L> = Steps::new(blank);
-    let cell = seek_key(port, who, key, &mut steps)?;
-    if cell == 0 {
-        return Ok(None);
-    }
-    Ok(Some(record_digest(port, Place { at: cell })))
-}
-
-// The value of the cell of a key's record: the place of the record that is its value, or 0 where the key is not bound
-// or the cell not filled.
-fn seek_key<L: Ledger, P: CellPort>(
-    port: &mut P,
-    who: Who,
-    key: &Digest,
-    steps: &mut Steps<L>,
-) -> Result<u64, AllocError>
-    requires { SpeaksFor (P.view port.old) who }
-    ensures ok { IfOk result (HasSoughtKey who key.now (P.view port.old) (P.view port.new)) }
-    ensures err { OnErr result (KeyStops who key.now (P.view port.old) (P.view port.new)) }
-    ensures lawful { IsLawful (P.view port.old) (P.view port.new) }
-{
-    let note = Note {
-        who,
-        stage: Stage::Key,
-    };
-    match port.look(note, Space::Actions, key, steps)? {
-        None => Ok(0),
-        Some(place) => port.read(note, place),
-    }
 }
 
 // Brings in the tree of the upstream's value of a key, where the primary lacks the value.

@@ -17,7 +17,7 @@ use cas_model::{Digest, Note, Reply, Stage, Who};
 use cell_port::CellPort;
 use fault_in::{FaultInError, fault_in};
 use frozen_store::Frozen;
-use graph_db::{holds, load, store};
+use graph_db::{holds, load, store_with_digest};
 use std::alloc::{AllocError, Global};
 
 // Loads an object. Where the upstream alone has it, its tree is brought in.
@@ -67,7 +67,7 @@ pub(crate) fn store_over<P: CellPort>(
     if has_object(up, &digest) {
         return store_known(alloc, port, who, up, refs, &digest);
     }
-    store_new(alloc, port, who, up, refs, data)
+    store_new(alloc, port, who, up, &digest, refs, data)
 }
 
 // Stores an object that the upstream lacks. References are brought in only where the store misses one that the upstream
@@ -77,6 +77,7 @@ fn store_new<P: CellPort>(
     port: &mut P,
     who: Who,
     up: &Frozen,
+    digest: &Digest,
     refs: &[Digest],
     data: &[u8],
 ) -> Result<Reply, FaultInError>
@@ -84,19 +85,20 @@ fn store_new<P: CellPort>(
     requires speaks { SpeaksFor (P.view port.old) who }
     requires few_refs { length refs.now ≤ 65535 }
     requires short { length «data».now ≤ 16777215 }
-    requires lacks { has (primary up.now.tables) (digest_of refs.now «data».now) ≡ false }
+    requires digest { digest.now ≡ digest_of refs.now «data».now }
+    requires lacks { has (primary up.now.tables) digest.now ≡ false }
     ensures ok { IfOk result (λ reply. Answers who (Store (object_with refs.now «data».now)) reply (P.view port.old) (P.view port.new)) }
     ensures err { IfErr result (EndsEarly who (Store (object_with refs.now «data».now)) (P.view port.old) (P.view port.new)) }
     ensures lawful { IsLawful (P.view port.old) (P.view port.new) }
 {
-    let first = store(port, who, refs, data);
+    let first = store_with_digest(port, who, digest, refs, data);
     if !misses_known(up, &first) {
         return stored(first);
     }
     if let Some(reply) = settle_refs(alloc, port, who, up, refs)? {
         return Ok(reply);
     }
-    stored(store(port, who, refs, data))
+    stored(store_with_digest(port, who, digest, refs, data))
 }
 
 // Stores an object that the upstream has.

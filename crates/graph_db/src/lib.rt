@@ -11,4 +11,4 @@ mod tests;
 pub use error::StoreError;
 pub use loading::{load, record_digest};
 pub use seeking::holds;
-pub use storing::store;
+pub use storing::{store, store_with_digest};

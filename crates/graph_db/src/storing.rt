@@ -41,12 +41,34 @@ pub fn store<P: CellPort>(
     ensures err { IfErr result (IsRefused who (object_with refs.now «data».now) (P.view port.old) (P.view port.new)) }
     ensures lawful { IsLawful (P.view port.old) (P.view port.new) }
 {
-    store_counted::<Brand, P>(port, who, refs, data, Blank::new(1))
+    store_with_digest(port, who, &Digest::of(refs, data), refs, data)
+}
+
+/// Stores an object whose digest the caller has computed already, so that the data is not hashed again. All else is as
+/// `store` says.
+pub fn store_with_digest<P: CellPort>(
+    port: &mut P,
+    who: Who,
+    digest: &Digest,
+    refs: &[Digest],
+    data: &[u8],
+) -> Result<Digest, StoreError>
+    requires digest { digest.now ≡ digest_of refs.now «data».now }
+    requires speaks { SpeaksFor (P.view port.old) who }
+    requires few_refs { length refs.now ≤ 65535 }
+    requires short { length «data».now ≤ 16777215 }
+    requires brought { IsBrought (P.view port.old) digest.now }
+    ensures ok { IfOk result (HasStored who (object_with refs.now «data».now) (P.view port.old) (P.view port.new)) }
+    ensures err { IfErr result (IsRefused who (object_with refs.now «data».now) (P.view port.old) (P.view port.new)) }
+    ensures lawful { IsLawful (P.view port.old) (P.view port.new) }
+{
+    store_counted::<Brand, P>(port, who, digest, refs, data, Blank::new(1))
 }
 
 fn store_counted<L: Ledger, P: CellPort>(
     port: &mut P,
     who: Who,
+    digest: &Digest,
     refs: &[Digest],
     data: &[u8],
     blank: Blank,
@@ -54,25 +76,25 @@ fn store_counted<L: Ledger, P: CellPort>(
     requires name { blank.name ≡ L.name }
     requires parts { blank.parts ≡ L.parts }
     requires one { blank.parts ≡ 1 }
+    requires digest { digest.now ≡ digest_of refs.now «data».now }
     requires speaks { SpeaksFor (P.view port.old) who }
     requires few_refs { length refs.now ≤ 65535 }
     requires short { length «data».now ≤ 16777215 }
-    requires brought { IsBrought (P.view port.old) (digest_of refs.now «data».now) }
+    requires brought { IsBrought (P.view port.old) digest.now }
     ensures ok { IfOk result (HasStored who (object_with refs.now «data».now) (P.view port.old) (P.view port.new)) }
     ensures err { IfErr result (IsRefused who (object_with refs.now «data».now) (P.view port.old) (P.view port.new)) }
     ensures lawful { IsLawful (P.view port.old) (P.view port.new) }
 {
     let mut steps: Steps<L> = Steps::new(blank);
     find_refs(port, who, refs, &mut steps)?;
-    let digest = Digest::of(refs, data);
     let note = Note {
         who,
         stage: Stage::Own,
     };
-    if seek(port, note, &digest, &mut steps)? == 0 {
-        bring(port, who, refs, data, &digest, &mut steps)?;
+    if seek(port, note, digest, &mut steps)? == 0 {
+        bring(port, who, refs, data, digest, &mut steps)?;
     }
-    Ok(digest)
+    Ok(*digest)
 }
 
 // Looks for each reference, in order, up to the first that is not filled.

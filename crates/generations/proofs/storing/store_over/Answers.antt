@@ -1,5 +1,5 @@
 -- what the store leaves, as one call
-use Rattle.std.proofs.Common.{sym, ap, ◌∙◌}
+use Rattle.std.proofs.Common.{sym, ◌∙◌}
 use Rattle.cas_model.specs.Primary.{primary}
 use Rattle.cas_model.specs.State.{has}
 use Rattle.generations.proofs.StoresOver.{known-err, known-ok}
@@ -12,4 +12,4 @@ pub returns-then-has_object-clause-err : goal.returns-then-has_object-clause-err
 returns-then-has_object-clause-err g c = known-err c.args.who c.args.refs.now _ c.args.«data».now (g.P.CellPort.view c.args.port.now) _ c.of-digest.ensures _ c.store_known.ensures.err
 
 pub store_new-requires-clause-lacks : goal.store_new-requires-clause-lacks
-store_new-requires-clause-lacks g c = ap (has (primary c.args.up.now.tables)) (sym c.of-digest.ensures) ∙ sym c.has_object.ensures ∙ c.if-has_object.false
+store_new-requires-clause-lacks g c = sym c.has_object.ensures ∙ c.if-has_object.false

@@ -1,5 +1,5 @@
 -- no upstream has nothing
-use Rattle.std.proofs.Common.{◌≡◌, Bool, true, false, Some, None, is_some, sym, ap, ◌∙◌}
+use Rattle.std.proofs.Common.{◌≡◌, true, false, Some, None, is_some, sym, ap, ◌∙◌}
 use Rattle.std.specs.declared.option.Option.{Option}
 use Rattle.std.specs.FinMap as fin
 use Rattle.cas_model.specs.declared.digest.Digest.{Digest}
