@@ -6,7 +6,7 @@ ghost use Rattle.region_check.specs.Passes.{RowOf, HasNoneBefore, HasHeader};
 ghost use Rattle.region_check.specs.Roles.{AreRoles, AreUnclaimed};
 ghost use Rattle.region_check.specs.Shown.{LeastWhere, AreTries, IsOfContents, IsReadyFor, turn_of};
 
-use crate::cells::least_in_contents;
+use crate::cells::{least_in_contents, leasts_in_contents};
 use crate::header::head_flaw;
 use crate::least::{Leasts, Tries, least_in_slots, least_value};
 use crate::names::word_at;
@@ -96,11 +96,12 @@ fn content_flaw(words: &[u64], roles: &[u8]) -> Option<Flaw>
     requires roles { AreRoles words.now roles.now }
     ensures { MatchOption result (HasNoneBefore words.now 12) (λ flaw. IsFirstFlaw words.now flaw) }
 {
-    match row_flaw(words, roles, Row::Padding) {
+    let leasts = leasts_in_contents(words, roles);
+    match flaw_of(words, Row::Padding, leasts.first) {
         Some(flaw) => Some(flaw),
-        None => match row_flaw(words, roles, Row::Reference) {
+        None => match flaw_of(words, Row::Reference, leasts.second) {
             Some(flaw) => Some(flaw),
-            None => match row_flaw(words, roles, Row::Order) {
+            None => match flaw_of(words, Row::Order, leasts.third) {
                 Some(flaw) => Some(flaw),
                 None => row_flaw(words, roles, Row::Digest),
             },
