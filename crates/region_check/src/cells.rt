@@ -83,7 +83,7 @@ fn content_flaw(words: &[u64], roles: &[u8], row: Row, owned: Owned) -> Option<u
 }
 
 /// The least place of a flaw of a row in the content that a word names, where it is an object's cell.
-fn least_in_cell(words: &[u64], roles: &[u8], row: Row, cell: usize) -> Option<u64>
+pub(crate) fn least_in_cell(words: &[u64], roles: &[u8], row: Row, cell: usize) -> Option<u64>
     requires cell { cell < length words.now }
     requires roles { AreRoles words.now roles.now }
     requires ready { IsReadyFor words.now roles.now row }

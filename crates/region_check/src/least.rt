@@ -152,7 +152,8 @@ fn leasts_in_table(words: &[u64], roles: &[u8], rows: Rows, space: Space, table:
     leasts
 }
 
-/// The least place of a flaw of each row that the slots of listed tables show.
+/// The least place of a flaw of each row that the slots of listed tables show. Inlined, the rows and the space are known.
+#[inline(always)]
 fn leasts_in_trie(words: &[u64], roles: &[u8], rows: Rows, space: Space, tables: &[Table]) -> Leasts
     requires least { 520 ≤ length words.now }
     requires short { length words.now ≤ 67108864 }
