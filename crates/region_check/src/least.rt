@@ -112,6 +112,7 @@ fn least_in_trie(
 }
 
 /// The least place of a flaw of each row that a slot shows. An empty one shows none.
+#[inline(always)]
 fn leasts_at(
     words: &[u64],
     roles: &[u8],
@@ -137,6 +138,7 @@ fn leasts_at(
 }
 
 /// The least place of a flaw of each row that the slots of a table show.
+#[inline(always)]
 fn leasts_in_table(words: &[u64], roles: &[u8], rows: Rows, space: Space, table: &Table) -> Leasts
     requires least { 520 ≤ length words.now }
     requires short { length words.now ≤ 67108864 }

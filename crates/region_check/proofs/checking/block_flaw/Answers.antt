@@ -1,5 +1,4 @@
-use Rattle.std.proofs.Common.{ℕ, subst, arith}
-use Rattle.std.specs.declared.option.Option.{Option}
+use Rattle.std.proofs.Common.{subst, arith}
 use Rattle.region_check.specs.declared.flaw.FlawKind.TheVariants.{Overlap}
 use Rattle.region_check.specs.Flaws.{IsShared}
 use Rattle.region_check.specs.Shown.{LeastWhere}

@@ -1,4 +1,4 @@
-use Rattle.std.proofs.Common.{◌≡◌, ◌-◌, ℕ, get_or, true, false, refl, subst, inl, inr, arith}
+use Rattle.std.proofs.Common.{◌≡◌, ◌-◌, get_or, true, false, refl, subst, inl, inr, arith}
 use Rattle.region_core.specs.Leads.{length_told}
 use Rattle.region_check.specs.Sweep.{BlockMarked}
 use Rattle.region_check.proofs.Sweeping.{cell_reached, cell_outside, content_ends, size_back, no_cell}
