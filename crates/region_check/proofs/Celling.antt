@@ -6,13 +6,15 @@ use Rattle.cas_model.specs.declared.digest.Digest.{Digest}
 use Rattle.cas_model.specs.declared.place.Space.TheVariants.{Objects}
 use Rattle.cas_model.specs.Object.{object_digest}
 use Rattle.region_core.specs.Leads.{IsRecordOf, digest_there, cell_there, object_there}
+use Rattle.region_check.specs.declared.least.Leasts.{Leasts}
+use Rattle.region_check.specs.declared.least.Rows.{Rows}
 use Rattle.region_check.specs.declared.row.Row.{Row}
 use Rattle.region_check.specs.declared.row.Row.TheVariants as rows
 use Rattle.region_check.specs.Flaws.{IsReached, IsTooLong, BadLength, BadDigest}
 use Rattle.region_check.specs.Passes.{RowOf}
 use Rattle.region_check.specs.Roles.{AreRoles, IsCellRole}
-use Rattle.region_check.specs.Shown.{LeastWhere, ContentShown, CellShown, CellsShown, IsOfContents, lower_of, turn_of}
-use Rattle.region_check.proofs.Lowest.{least_lower}
+use Rattle.region_check.specs.Shown.{LeastWhere, LeastOfEach, ContentShown, CellShown, CellsShown, IsOfContents, lower_of, turn_of}
+use Rattle.region_check.proofs.Lowest.{least_lower, each_lower}
 use Rattle.region_check.proofs.Rows.{least_same}
 
 -- ---- one cell
@@ -73,6 +75,25 @@ module _ (words : List ℕ) (row : Row) where
   -- what a reached content shows is shown by its cell
   shown_from : (p r c : ℕ) → IsReached words r c → ContentShown words row r c p → CellsShown words row (length words) p
   shown_from p r c x shown = (r + 4, omega (arith, x.0.0.0.4.2), (r, c, refl, x, shown))
+
+-- ---- three rows at once
+
+-- a cell names one content
+pub cell_shows_each :
+    (words : List ℕ) (cell : ℕ) (three : Rows) (owner place : ℕ) (leasts : Leasts) → cell ≡ owner + 4 → IsReached words owner place → LeastOfEach (λ row p. ContentShown words row owner place p) three leasts
+    → LeastOfEach (λ row. CellShown words row cell) three leasts
+cell_shows_each words cell three owner place leasts at x h = record {
+  first = cell_shows words cell three.first owner place leasts.first at x h.first;
+  second = cell_shows words cell three.second owner place leasts.second at x h.second;
+  third = cell_shows words cell three.third owner place leasts.third at x h.third;
+}
+
+-- one more word was looked at
+pub each_cell :
+    (words : List ℕ) (three : Rows) (cell : ℕ) (old here new : Leasts) → new.first ≡ lower_of old.first here.first → new.second ≡ lower_of old.second here.second → new.third ≡ lower_of old.third here.third
+    → LeastOfEach (λ row. CellsShown words row cell) three old → LeastOfEach (λ row. CellShown words row cell) three here → LeastOfEach (λ row. CellsShown words row (cell + 1)) three new
+each_cell words three cell old here new first second third a b =
+    each_lower (λ row. CellsShown words row cell) (λ row. CellShown words row cell) (λ row. CellsShown words row (cell + 1)) three old here new first second third (λ row x y p q. cells_more words row cell x y p q) a b
 
 -- ---- the rows of contents
 

@@ -1,5 +1,5 @@
 -- The least place over slots, tables and tries.
-use Rattle.std.proofs.Common.{◌≡◌, ◌⊎◌, ℕ, ◌+◌, min, List, length, Some, None, inl, inr, refl, sym, ap, ◌∙◌, subst, arith}
+use Rattle.std.proofs.Common.{◌≡◌, ◌⊎◌, ℕ, ◌+◌, min, List, length, get_or, Some, None, inl, inr, refl, sym, ap, ◌∙◌, subst, arith}
 use Rattle.std.specs.declared.option.Option.{Option}
 use Rattle.std.proofs.lemmas.Bool.{cases_eq, cases_lt}
 use Rattle.cas_model.specs.declared.place.Space.{Space}
@@ -8,6 +8,7 @@ use Rattle.region_check.specs.declared.least.Leasts.{Leasts}
 use Rattle.region_check.specs.declared.least.Rows.{Rows}
 use Rattle.region_check.specs.declared.reach.Table.{Table}
 use Rattle.region_check.specs.declared.row.Row.{Row}
+use Rattle.region_check.specs.declared.row.Row.TheVariants as rows
 use Rattle.region_check.specs.Reach.{slots_of, table_of}
 use Rattle.region_check.specs.Shown.{LeastWhere, LeastOfEach, Shown, TableShown, TrieShown, lower_of}
 use Rattle.region_check.proofs.Rows.{least_same}
@@ -75,13 +76,39 @@ each_lower P Q R three old here new first second third go a b = record {
   third = subst (LeastWhere (R three.third)) (sym third) (go three.third old.third here.third a.third b.third);
 }
 
--- no table was looked at
-pub each_none : (words : List ℕ) (s : Space) (three : Rows) (tables : List Table) → LeastOfEach (λ row. TrieShown words row s tables 0) three (record { first = None; second = None; third = None })
-each_none words s three tables = record {
-  first = trie_none words three.first s tables;
-  second = trie_none words three.second s tables;
-  third = trie_none words three.third s tables;
+-- nothing was found of any row
+pub each_none : (P : Row → ℕ → Type 0) (three : Rows) (new : Leasts) → new.first ≡ None → new.second ≡ None → new.third ≡ None → ((row : Row) (n : ℕ) → P row n → ⊥) → LeastOfEach P three new
+each_none P three new first second third none = record {
+  first = subst (LeastWhere (P three.first)) (sym first) (none three.first);
+  second = subst (LeastWhere (P three.second)) (sym second) (none three.second);
+  third = subst (LeastWhere (P three.third)) (sym third) (none three.third);
 }
+
+-- an empty slot shows nothing
+pub empty_shows : (words : List ℕ) (s : Space) (level slot : ℕ) → get_or words slot 0 ≡ 0 → (row : Row) (p : ℕ) → Shown words row s level slot p → ⊥
+empty_shows words s level slot empty rows.Slot p x = x.1.some empty
+empty_shows words s level slot empty rows.Range p x = elim x [
+  | inl a ↦ elim a.1 [ inl r ↦ omega (arith, empty, r.1) | inr t ↦ omega (arith, empty, t.1) ]
+  | inr a ↦ omega (arith, empty, a.1.1.0)
+]
+empty_shows words s level slot empty rows.Path p x = elim x.1 [
+  | inl deep ↦ omega (arith, empty, deep.1.1.0)
+  | inr lost ↦ omega (arith, empty, lost.1.1.0)
+]
+empty_shows words s level slot empty rows.Value p x = omega (arith, empty, x.1.1.0)
+empty_shows words s level slot empty rows.Length p x = x
+empty_shows words s level slot empty rows.Padding p x = x
+empty_shows words s level slot empty rows.Reference p x = x
+empty_shows words s level slot empty rows.Order p x = x
+empty_shows words s level slot empty rows.Digest p x = x
+
+-- one more slot was looked at
+pub each_slot :
+    (words : List ℕ) (s : Space) (three : Rows) (table : Table) (j : ℕ) (old here new : Leasts) → new.first ≡ lower_of old.first here.first → new.second ≡ lower_of old.second here.second → new.third ≡ lower_of old.third here.third
+    → LeastOfEach (λ row. TableShown words row s table j) three old → LeastOfEach (λ row. Shown words row s table.level (table.place + j)) three here → LeastOfEach (λ row. TableShown words row s table (j + 1)) three new
+each_slot words s three table j old here new first second third a b =
+    each_lower (λ row. TableShown words row s table j) (λ row. Shown words row s table.level (table.place + j)) (λ row. TableShown words row s table (j + 1)) three old here new first second third
+    (λ row x y p q. table_more words row s table j x y p q) a b
 
 -- one more table was looked at
 pub each_more :

@@ -3,12 +3,12 @@ use Rattle.std.proofs.Common.{◌≡◌, ◌≢◌, ◌⊎◌, ℕ, ◌+◌, ◌
 use Rattle.std.specs.declared.option.Option.{Option}
 use Rattle.std.proofs.lemmas.Bool.{cases_eq, cases_lt}
 use Rattle.cas_model.specs.declared.place.Space.{Space}
-use Rattle.region_check.specs.Flaws.{Naming, BySlot, ByCell, Covers, LiesIn, IsShared, IsSlotOf, IsReached, end_told}
+use Rattle.region_check.specs.Flaws.{Naming, BySlot, ByCell, Covers, LiesIn, IsShared, IsSlotOf, IsReached, IsTooLong, end_told}
 use Rattle.region_check.specs.Passes.{HasNoneBefore}
 use Rattle.region_check.proofs.Rows.{slot_within}
 use Rattle.region_check.specs.Roles.{IsClaimed, AreRoles, AreUnclaimed}
 use Rattle.region_check.specs.Shown.{LeastWhere, lower_of}
-use Rattle.region_check.specs.Sweep.{MarkedRun, BlockMarked, OneSwept, IsBefore, SharedOf, IsBelow, Swept}
+use Rattle.region_check.specs.Sweep.{MarkedRun, BlockMarked, OneSwept, CellSwept, IsBefore, SharedOf, IsBelow, Swept}
 use Rattle.region_core.specs.Leads.{length_told}
 use Rattle.region_check.proofs.Rows.{least_same}
 
@@ -362,11 +362,25 @@ cell_outside words cell place is out p n x =
     let same : p ≡ place = x.2.0.1 ∙ ap (λ k. get_or words k 0) (sym x.1) ∙ sym is in
     elim out [ inl low ↦ omega (arith, same, x.2.1) | inr high ↦ omega (arith, same, x.2.2) ]
 
--- a content ends within the words
-pub content_ends : (words : List ℕ) (r c : ℕ) → HasNoneBefore words 6 → IsReached words r c → end_told words c ≤ length words
-content_ends words r c none x = elim (cases_lt (length words) (end_told words c)) [
-  | inl past ↦ absurd (none.none 5 c (omega arith) (r, x, inr (inr past)))
-  | inr ok ↦ ok
+-- a content that is not too long ends within the words
+pub content_ends : (words : List ℕ) (c : ℕ) → (IsTooLong words c → ⊥) → end_told words c ≤ length words
+content_ends words c ok = elim (cases_lt (length words) (end_told words c)) [
+  | inl past ↦ absurd (ok (inr (inr past)))
+  | inr ends ↦ ends
+]
+
+-- the roles stay where a cell was looked at
+pub cell_roles : (words : List ℕ) (cell : ℕ) (before after : List ℕ) (stop : Option ℕ) → AreRoles words before → CellSwept words cell before after stop → AreRoles words after
+cell_roles words cell before after stop roles x = elim x [
+  | inl one ↦ one_roles words (ByCell cell) before after stop roles one
+  | inr out ↦ subst (AreRoles words) (sym out.0) roles
+]
+
+-- no content is too long
+pub cell_swept : (words : List ℕ) (cell : ℕ) (before after : List ℕ) (stop : Option ℕ) → HasNoneBefore words 6 → CellSwept words cell before after stop → OneSwept words (ByCell cell) before after stop
+cell_swept words cell before after stop none x = elim x [
+  | inl one ↦ one
+  | inr out ↦ absurd (none.none 5 out.1.0 (omega arith) out.1.1)
 ]
 
 pub size_back : (place size end : ℕ) → end ≡ place + size → end - place ≡ size

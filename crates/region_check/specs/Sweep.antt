@@ -1,7 +1,7 @@
 -- The least word that lies in two blocks.
 use Rattle.std.specs.Prelude.{◌≡◌, ◌≢◌, ℕ, ◌+◌, ◌<◌, ◌≤◌, List, length, slice_index, ◌⊎◌, Some, None}
 use Rattle.std.specs.declared.option.Option.{Option}
-use Rattle.region_check.specs.Flaws.{Naming, BySlot, ByCell, Covers, LiesIn}
+use Rattle.region_check.specs.Flaws.{Naming, BySlot, ByCell, Covers, LiesIn, BadLength}
 use Rattle.region_check.specs.Roles.{IsClaimed}
 use Rattle.region_check.specs.Shown.{LeastWhere}
 
@@ -21,6 +21,10 @@ abbrev pub OneSwept : List ℕ → Naming → List ℕ → List ℕ → Option �
 OneSwept words x before after stop =
     ((at size : ℕ) × Covers words x at size × BlockMarked before after at size stop)
     ⊎ ((after ≡ before) × (stop ≡ None) × ((at size : ℕ) → Covers words x at size → ⊥))
+
+-- an object's cell was looked at: the content that it names was marked, or is too long and was left out
+abbrev pub CellSwept : List ℕ → ℕ → List ℕ → List ℕ → Option ℕ → Type 0
+CellSwept words cell before after stop = OneSwept words (ByCell cell) before after stop ⊎ ((after ≡ before) × ((p : ℕ) × BadLength words p))
 
 -- the namings at the places below one
 abbrev pub IsBefore : ℕ → Naming → Type 0

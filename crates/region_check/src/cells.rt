@@ -5,10 +5,10 @@ ghost use Rattle.region_core.specs.Leads.{digest_there, object_there};
 ghost use Rattle.region_check.specs.Flaws.{IsReached};
 ghost use Rattle.region_check.specs.Passes.{RowOf, HasNoneBefore};
 ghost use Rattle.region_check.specs.Roles.{AreRoles};
-ghost use Rattle.region_check.specs.Shown.{LeastWhere, ContentShown, CellShown, CellsShown, IsOfContents, IsReadyFor, turn_of};
+ghost use Rattle.region_check.specs.Shown.{LeastWhere, LeastOfEach, ContentShown, CellShown, CellsShown, IsOfContents, IsReadyFor, AreReadyFor, turn_of};
 
 use crate::contents::{absent_reference, high_reference, is_too_long, stray};
-use crate::least::lower;
+use crate::least::{Leasts, Rows, lower};
 use crate::row::Row;
 use crate::sum::content_digest;
 use region_core::record_digest;
@@ -83,7 +83,7 @@ fn content_flaw(words: &[u64], roles: &[u8], row: Row, owned: Owned) -> Option<u
 }
 
 /// The least place of a flaw of a row in the content that a word names, where it is an object's cell.
-fn least_in_cell(words: &[u64], roles: &[u8], row: Row, cell: usize) -> Option<u64>
+pub(crate) fn least_in_cell(words: &[u64], roles: &[u8], row: Row, cell: usize) -> Option<u64>
     requires cell { cell < length words.now }
     requires roles { AreRoles words.now roles.now }
     requires ready { IsReadyFor words.now roles.now row }
@@ -119,4 +119,63 @@ pub(crate) fn least_in_contents(words: &[u64], roles: &[u8], row: Row) -> Option
     ensures { LeastWhere (RowOf words.now (turn_of row)) result }
 {
     least_in_cells(words, roles, row)
+}
+
+/// The least place of a flaw of each of three rows in an object's content.
+fn content_flaws(words: &[u64], roles: &[u8], rows: Rows, owned: Owned) -> Leasts
+    requires ready { AreReadyFor words.now roles.now rows }
+    requires reached { IsReached words.now owned.owner owned.place }
+    requires short { length words.now ≤ 67108864 }
+    ensures { LeastOfEach (λ row p. ContentShown words.now row owned.owner owned.place p) rows result }
+{
+    Leasts {
+        first: content_flaw(words, roles, rows.first, owned),
+        second: content_flaw(words, roles, rows.second, owned),
+        third: content_flaw(words, roles, rows.third, owned),
+    }
+}
+
+/// The least place of a flaw of each of three rows in the content that a word names, where it is an object's cell.
+fn leasts_in_cell(words: &[u64], roles: &[u8], rows: Rows, cell: usize) -> Leasts
+    requires cell { cell < length words.now }
+    requires roles { AreRoles words.now roles.now }
+    requires ready { AreReadyFor words.now roles.now rows }
+    requires short { length words.now ≤ 67108864 }
+    ensures { LeastOfEach (λ row. CellShown words.now row cell) rows result }
+{
+    match owned_by(words, roles, cell) {
+        None => Leasts::none(),
+        Some(owned) => content_flaws(words, roles, rows, owned),
+    }
+}
+
+/// The least place of a flaw of each of three rows in the contents that objects' cells name.
+fn leasts_in_cells(words: &[u64], roles: &[u8], rows: Rows) -> Leasts
+    requires roles { AreRoles words.now roles.now }
+    requires ready { AreReadyFor words.now roles.now rows }
+    requires short { length words.now ≤ 67108864 }
+    ensures { LeastOfEach (λ row. CellsShown words.now row (length words.now)) rows result }
+{
+    let mut leasts = Leasts::none();
+    for cell in 0..words.len() {
+        leasts = leasts.lower(leasts_in_cell(words, roles, rows, cell));
+    }
+    leasts
+}
+
+/// The least places of flaws of padding, of references and of their order, in this order. A content's words are near from
+/// the first row on.
+pub(crate) fn leasts_in_contents(words: &[u64], roles: &[u8]) -> Leasts
+    requires roles { AreRoles words.now roles.now }
+    requires short { length words.now ≤ 67108864 }
+    ensures padding { LeastWhere (RowOf words.now 8) result.first }
+    ensures reference { LeastWhere (RowOf words.now 9) result.second }
+    ensures order { LeastWhere (RowOf words.now 10) result.third }
+{
+    let rows = Rows {
+        first: Row::Padding,
+        second: Row::Reference,
+        third: Row::Order,
+    };
+    leasts_in_cells(words, roles, rows)
 }

@@ -1,12 +1,12 @@
 // The first flaw of words, and the closed region of words that have none.
 ghost use Rattle.std.specs.Prelude.{◌≡◌, ◌≤◌, suc, length, MatchOption, IfOk, IfErr};
 ghost use Rattle.frozen_store.specs.Seen.{HasState};
-ghost use Rattle.region_check.specs.Flaws.{HasKind, turn, IsFirstFlaw, Refuses};
+ghost use Rattle.region_check.specs.Flaws.{HasKind, turn, IsShared, IsFirstFlaw, Refuses};
 ghost use Rattle.region_check.specs.Passes.{RowOf, HasNoneBefore, HasHeader};
 ghost use Rattle.region_check.specs.Roles.{AreRoles, AreUnclaimed};
 ghost use Rattle.region_check.specs.Shown.{LeastWhere, AreTries, IsOfContents, IsReadyFor, turn_of};
 
-use crate::cells::least_in_contents;
+use crate::cells::{least_in_contents, leasts_in_contents};
 use crate::header::head_flaw;
 use crate::least::{Leasts, Tries, least_in_slots, least_value};
 use crate::names::word_at;
@@ -14,7 +14,7 @@ use crate::reach::reach;
 use crate::roles::roles_of;
 use crate::row::Row;
 use crate::sum::content_digest;
-use crate::sweep::shared_word;
+use crate::sweep::sweep_words;
 use crate::{CheckError, Flaw, FlawKind};
 use cas_model::Space;
 use frozen_store::Frozen;
@@ -96,11 +96,12 @@ fn content_flaw(words: &[u64], roles: &[u8]) -> Option<Flaw>
     requires roles { AreRoles words.now roles.now }
     ensures { MatchOption result (HasNoneBefore words.now 12) (λ flaw. IsFirstFlaw words.now flaw) }
 {
-    match row_flaw(words, roles, Row::Padding) {
+    let leasts = leasts_in_contents(words, roles);
+    match flaw_of(words, Row::Padding, leasts.first) {
         Some(flaw) => Some(flaw),
-        None => match row_flaw(words, roles, Row::Reference) {
+        None => match flaw_of(words, Row::Reference, leasts.second) {
             Some(flaw) => Some(flaw),
-            None => match row_flaw(words, roles, Row::Order) {
+            None => match flaw_of(words, Row::Order, leasts.third) {
                 Some(flaw) => Some(flaw),
                 None => row_flaw(words, roles, Row::Digest),
             },
@@ -128,16 +129,22 @@ fn path_flaw(words: &[u64], roles: &[u8], tries: &Tries, path: Option<u64>) -> O
 }
 
 /// The first flaw from that of blocks on: overlap first.
-fn block_flaw(words: &[u64], roles: &mut [u8], tries: &Tries, path: Option<u64>) -> Option<Flaw>
+fn block_flaw(
+    words: &[u64],
+    roles: &[u8],
+    tries: &Tries,
+    shared: Option<u64>,
+    path: Option<u64>,
+) -> Option<Flaw>
     requires header { HasHeader words.now }
     requires none { HasNoneBefore words.now 6 }
-    requires roles { AreRoles words.now roles.old }
-    requires unclaimed { AreUnclaimed roles.old }
+    requires roles { AreRoles words.now roles.now }
     requires tries { AreTries words.now tries.now.objects.items tries.now.actions.items }
+    requires shared { LeastWhere (λ w. IsShared words.now w) shared }
     requires path { HasNoneBefore words.now 7 → LeastWhere (RowOf words.now 7) path }
     ensures { MatchOption result (HasState words.now) (λ flaw. IsFirstFlaw words.now flaw) }
 {
-    match shared_word(words, roles) {
+    match shared {
         Some(place) => Some(Flaw {
             place,
             kind: FlawKind::Overlap,
@@ -156,9 +163,10 @@ fn length_flaw(words: &[u64], roles: &mut [u8], tries: &Tries, path: Option<u64>
     requires path { HasNoneBefore words.now 7 → LeastWhere (RowOf words.now 7) path }
     ensures { MatchOption result (HasState words.now) (λ flaw. IsFirstFlaw words.now flaw) }
 {
-    match row_flaw(words, roles, Row::Length) {
+    let found = sweep_words(words, roles);
+    match flaw_of(words, Row::Length, found.long) {
         Some(flaw) => Some(flaw),
-        None => block_flaw(words, roles, tries, path),
+        None => block_flaw(words, roles, tries, found.shared, path),
     }
 }
 

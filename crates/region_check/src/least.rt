@@ -1,8 +1,8 @@
 // The least places of the flaws of rows, three rows in one walk.
-ghost use Rattle.std.specs.Prelude.{◌≡◌, ℕ, ◌⊎◌, ◌≤◌, length};
+ghost use Rattle.std.specs.Prelude.{◌≡◌, ℕ, ◌⊎◌, ◌<◌, ◌≤◌, length, None};
 ghost use Rattle.cas_model.specs.declared.place.Space.TheVariants.{Objects, Actions};
 ghost use Rattle.region_check.specs.Reach.{AreTables, IsLed, slots_of};
-ghost use Rattle.region_check.specs.Shown.{LeastWhere, LeastOfEach, TableShown, TrieShown, IsReadyFor, AreReadyFor, lower_of, AreTries};
+ghost use Rattle.region_check.specs.Shown.{LeastWhere, LeastOfEach, Shown, TableShown, TrieShown, IsReadyFor, AreReadyFor, lower_of, AreTries};
 ghost use Rattle.region_check.specs.Passes.{RowOf, HasNoneBefore};
 ghost use Rattle.region_check.specs.Roles.{AreRoles};
 
@@ -34,8 +34,21 @@ pub(crate) struct Leasts {
 }
 
 impl Leasts {
+    /// No place of any row.
+    pub(crate) fn none() -> Leasts
+        ensures first { result.first ≡ None }
+        ensures second { result.second ≡ None }
+        ensures third { result.third ≡ None }
+    {
+        Leasts {
+            first: None,
+            second: None,
+            third: None,
+        }
+    }
+
     /// The lower ones of two places each, of those that there are.
-    fn lower(self, other: Leasts) -> Leasts
+    pub(crate) fn lower(self, other: Leasts) -> Leasts
         ensures first { result.first ≡ lower_of self.first other.first }
         ensures second { result.second ≡ lower_of self.second other.second }
         ensures third { result.third ≡ lower_of self.third other.third }
@@ -98,8 +111,34 @@ fn least_in_trie(
     least
 }
 
-/// The least place of a flaw of each row that the slots of a table show. What the table names is near from the first row
-/// on.
+/// The least place of a flaw of each row that a slot shows. An empty one shows none.
+#[inline(always)]
+fn leasts_at(
+    words: &[u64],
+    roles: &[u8],
+    rows: Rows,
+    space: Space,
+    level: u8,
+    slot: usize,
+) -> Leasts
+    requires least { 520 ≤ length words.now }
+    requires slot { slot < length words.now }
+    requires ready { AreReadyFor words.now roles.now rows }
+    requires short { length words.now ≤ 67108864 }
+    ensures { LeastOfEach (λ row p. Shown words.now row space level slot p) rows result }
+{
+    if words[slot] == 0 {
+        return Leasts::none();
+    }
+    Leasts {
+        first: flaw_at(words, roles, rows.first, space, level, slot),
+        second: flaw_at(words, roles, rows.second, space, level, slot),
+        third: flaw_at(words, roles, rows.third, space, level, slot),
+    }
+}
+
+/// The least place of a flaw of each row that the slots of a table show.
+#[inline(always)]
 fn leasts_in_table(words: &[u64], roles: &[u8], rows: Rows, space: Space, table: &Table) -> Leasts
     requires least { 520 ≤ length words.now }
     requires short { length words.now ≤ 67108864 }
@@ -107,14 +146,16 @@ fn leasts_in_table(words: &[u64], roles: &[u8], rows: Rows, space: Space, table:
     requires led { IsLed words.now space table.now }
     ensures { LeastOfEach (λ row. TableShown words.now row space table.now (slots_of table.now)) rows result }
 {
-    Leasts {
-        first: least_in_table(words, roles, rows.first, space, table),
-        second: least_in_table(words, roles, rows.second, space, table),
-        third: least_in_table(words, roles, rows.third, space, table),
+    let mut leasts = Leasts::none();
+    for index in 0..table.slots() {
+        let slot = table.place as usize + index;
+        leasts = leasts.lower(leasts_at(words, roles, rows, space, table.level, slot));
     }
+    leasts
 }
 
-/// The least place of a flaw of each row that the slots of listed tables show.
+/// The least place of a flaw of each row that the slots of listed tables show. Inlined, the rows and the space are known.
+#[inline(always)]
 fn leasts_in_trie(words: &[u64], roles: &[u8], rows: Rows, space: Space, tables: &[Table]) -> Leasts
     requires least { 520 ≤ length words.now }
     requires short { length words.now ≤ 67108864 }
@@ -122,11 +163,7 @@ fn leasts_in_trie(words: &[u64], roles: &[u8], rows: Rows, space: Space, tables:
     requires tables { AreTables words.now space tables.now }
     ensures { LeastOfEach (λ row. TrieShown words.now row space tables.now (length tables.now)) rows result }
 {
-    let mut leasts = Leasts {
-        first: None,
-        second: None,
-        third: None,
-    };
+    let mut leasts = Leasts::none();
     for table in tables {
         leasts = leasts.lower(leasts_in_table(words, roles, rows, space, table));
     }

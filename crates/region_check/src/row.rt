@@ -162,6 +162,7 @@ fn value_flaw(words: &[u64], roles: &[u8], slot: usize) -> Option<u64>
 }
 
 /// The least place of a flaw of a row that a slot shows, in a trie and at its table's level.
+#[inline(always)]
 pub(crate) fn flaw_at(
     words: &[u64],
     roles: &[u8],

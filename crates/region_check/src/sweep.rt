@@ -1,14 +1,23 @@
-// The least word that lies in two blocks.
+// The least word that lies in two blocks, and the least content that is too long.
 ghost use Rattle.std.specs.Prelude.{◌≡◌, ℕ, ◌+◌, ◌<◌, ◌≤◌, length, slice_index};
-ghost use Rattle.region_check.specs.Flaws.{BySlot, ByCell, IsShared};
-ghost use Rattle.region_check.specs.Passes.{HasNoneBefore};
+ghost use Rattle.region_check.specs.Flaws.{BySlot, IsShared};
+ghost use Rattle.region_check.specs.Passes.{RowOf, HasNoneBefore};
 ghost use Rattle.region_check.specs.Roles.{AreRoles, AreUnclaimed};
 ghost use Rattle.region_check.specs.Shown.{LeastWhere};
-ghost use Rattle.region_check.specs.Sweep.{BlockMarked, OneSwept};
+ghost use Rattle.region_check.specs.Sweep.{BlockMarked, OneSwept, CellSwept};
 
-use crate::contents::end_of;
+use crate::cells::least_in_cell;
+use crate::contents::{end_of, is_too_long};
 use crate::least::lower;
 use crate::names::{record_at, table_at};
+use crate::row::Row;
+
+/// The least places that a sweep finds: of a content that is too long, and of a word that lies in two blocks.
+#[derive(Clone, Copy)]
+pub(crate) struct Found {
+    pub long: Option<u64>,
+    pub shared: Option<u64>,
+}
 
 /// Marks the words of a block up to its end, or up to one that was seen in another block, which it answers.
 fn mark_block(roles: &mut [u8], at: usize, size: usize) -> Option<u64>
@@ -43,13 +52,12 @@ fn sweep_slot(words: &[u64], roles: &mut [u8], slot: usize) -> Option<u64>
     }
 }
 
-/// Marks the content that an object's cell names.
+/// Marks the content that an object's cell names, where it is not too long.
 fn sweep_cell(words: &[u64], roles: &mut [u8], cell: usize) -> Option<u64>
     requires cell { cell < length words.now }
     requires roles { AreRoles words.now roles.old }
-    requires none { HasNoneBefore words.now 6 }
     requires short { length words.now ≤ 67108864 }
-    ensures { OneSwept words.now (ByCell cell) roles.old roles.new result }
+    ensures { CellSwept words.now cell roles.old roles.new result }
 {
     if roles[cell] / 2 % 2 == 0 {
         return None;
@@ -58,25 +66,31 @@ fn sweep_cell(words: &[u64], roles: &mut [u8], cell: usize) -> Option<u64>
     if place < 520 || place >= words.len() {
         return None;
     }
+    if is_too_long(words, place) {
+        return None;
+    }
     let end = end_of(words, place) as usize;
     mark_block(roles, place, end - place)
 }
 
-/// The least word that lies in two blocks. It marks the words of each block that a slot or an object's cell names, up to
-/// the first that was marked before: those after it are no lower.
-pub(crate) fn shared_word(words: &[u64], roles: &mut [u8]) -> Option<u64>
-    requires long { 520 ≤ length words.now }
+/// The least content that is too long, and the least word that lies in two blocks. It marks the words of each block that a
+/// slot or an object's cell names, up to the first that was marked before: those after it are no lower. A content that is
+/// too long is left out, so what is told of blocks counts only where there is none.
+pub(crate) fn sweep_words(words: &[u64], roles: &mut [u8]) -> Found
+    requires least { 520 ≤ length words.now }
     requires roles { AreRoles words.now roles.old }
     requires unclaimed { AreUnclaimed roles.old }
-    requires none { HasNoneBefore words.now 6 }
     requires short { length words.now ≤ 67108864 }
-    ensures least { LeastWhere (λ w. IsShared words.now w) result }
+    ensures long { LeastWhere (RowOf words.now 5) result.long }
+    ensures shared { HasNoneBefore words.now 6 → LeastWhere (λ w. IsShared words.now w) result.shared }
     ensures roles { AreRoles words.now roles.new }
 {
-    let mut least = None;
+    let mut long = None;
+    let mut shared = None;
     for at in 0..words.len() {
-        least = lower(least, sweep_slot(words, roles, at));
-        least = lower(least, sweep_cell(words, roles, at));
+        long = lower(long, least_in_cell(words, roles, Row::Length, at));
+        shared = lower(shared, sweep_slot(words, roles, at));
+        shared = lower(shared, sweep_cell(words, roles, at));
     }
-    least
+    Found { long, shared }
 }
