@@ -1,17 +1,14 @@
 -- How many subtries a digest needs, by the two deepest levels that it shares.
-use Rattle.std.proofs.Common.{◌≡◌, ◌≢◌, ℕ, zero, suc, ◌+◌, ◌-◌, ◌<◌, ◌≤◌, List, [], ◌∷◌, Bool, true, false, cond, ◌==◌, ◌&&◌, ◌/◌, ◌%◌, ◌⊎◌, inl, inr, nat_eq, nat_lt, slice_index, refl, ap, sym, subst, ◌∙◌, arith, min}
-use Rattle.std.proofs.lemmas.Bool.{ltb-true, ltb-false, le-ltb, eq-eqb, ne_eqb}
-use Rattle.std.proofs.lemmas.List.Sums.{sum_by-cons}
+use Rattle.std.proofs.Common.{◌≡◌, ◌≢◌, ℕ, zero, suc, ◌+◌, ◌-◌, ◌<◌, ◌≤◌, List, Bool, true, false, cond, ◌==◌, ◌&&◌, ◌/◌, ◌%◌, ◌⊎◌, inl, inr, nat_eq, slice_index, refl, ap, sym, ◌∙◌, arith, min, max, None, Some}
+use Rattle.std.proofs.lemmas.Bool.{eq-eqb, ne_eqb}
+use Rattle.std.specs.declared.option.Option.{Option}
+use Rattle.std.specs.Option.{MatchOption}
 use Rattle.std.proofs.lemmas.Bool.Decides.{eqb_tells}
 use Rattle.cas_model.specs.declared.digest.Digest.{Digest}
 use Rattle.cas_model.specs.declared.place.Space.{Space}
-use Rattle.cas_model.specs.declared.place.Space.TheVariants.{Objects, Actions}
 use Rattle.cas_model.specs.declared.tables.Record.{Record}
-use Rattle.cas_model.specs.Tables.{same_space}
 use Rattle.cas_model.specs.Trie.{index_of, nibble, sharing, new_subtries}
-use Rattle.cell_port.specs.declared.subtries.Deepest.{Deepest}
-use Rattle.cell_port.specs.Depth.{shares, shared, shared_level, with_level, no_levels, deepest_of}
-use Rattle.cell_port.specs.Shelves.{shelf_key, on_shelf}
+use Rattle.cell_port.specs.Depth.{shares, shared, shared_level, needed_beside}
 use Rattle.cell_port.specs.Needed.{bound_in, needed}
 
 index-next : (bytes : List ℕ) (level n : ℕ) → 0 < level → n ≡ level + 1 → index_of bytes level ≡ nibble bytes n
@@ -94,180 +91,137 @@ parts-at e d r a b one two differ =
 pub goes-on : (e d : Digest) (r a b : ℕ) → a ≡ index_of e.bytes r → b ≡ index_of d.bytes r → a ≡ b → shares e d r ≡ true → shares e d (suc r) ≡ true
 goes-on e d r a b one two same here = (λ i. nat_eq (sym one i) (sym two i) && here i) ∙ ap (λ x. x && true) (eq-eqb a b same)
 
+-- a level is shared just where it is not below the deepest one
+abbrev LevelCases : Digest → Digest → ℕ → Type 0
+LevelCases e d l = ((l ≤ shared_level e d) × (shares e d l ≡ true)) ⊎ ((shared_level e d < l) × (shares e d l ≡ false))
+
+level-cases : (e d : Digest) → (shared_level e d ≤ 62) × ((l : ℕ) → l ≤ 62 → LevelCases e d l)
+unfolding shared_level
+level-cases e d = (shared-most e d 62, λ l le. shares-cases e d 62 l le)
+
 -- ---- the number of digests that share a level
 
 -- none shares a level below the first number, one shares those down to it, and at least two those down to the second
-abbrev Tri : ℕ → ℕ → ℕ → ℕ → Type 0
-Tri first second l c = ((first < l) × (c ≡ 0)) ⊎ ((second < l) × (l ≤ first) × (c ≡ 1)) ⊎ ((l ≤ second) × (2 ≤ c))
+abbrev Tells : ℕ → ℕ → ℕ → ℕ → Type 0
+Tells first second l c = ((first < l) × (c ≡ 0)) ⊎ ((second < l) × (l ≤ first) × (c ≡ 1)) ⊎ ((l ≤ second) × (2 ≤ c))
 
--- one more counts down to its own level
-abbrev More : ℕ → ℕ → ℕ → ℕ → Type 0
-More k l c new = ((l ≤ k) × (new ≡ suc c)) ⊎ ((k < l) × (new ≡ c))
+-- two levels tell how many share each level
+pub record AreDeepest (counts : ℕ → ℕ) (first second : ℕ) : Type 0 where
+  pub falls : second ≤ first
+  pub most : first ≤ 62
+  pub at : (l : ℕ) → l ≤ 62 → 0 < l → Tells first second l (counts l)
 
-deeper : (f s k l c new : ℕ) → s ≤ f → f < k → Tri f s l c → More k l c new → Tri k f l new
-deeper f s k l c new falls lt (inl h) (inl m) = inr (inl (h.0, m.0, omega (arith, h.1, m.1)))
-deeper f s k l c new falls lt (inl h) (inr m) = inl (m.0, omega (arith, h.1, m.1))
-deeper f s k l c new falls lt (inr (inl h)) (inl m) = inr (inr (h.1, omega (arith, h.2, m.1)))
-deeper f s k l c new falls lt (inr (inl h)) (inr m) = absurd (omega (arith, h.1, m.0))
-deeper f s k l c new falls lt (inr (inr h)) (inl m) = inr (inr (omega (arith, h.0), omega (arith, h.1, m.1)))
-deeper f s k l c new falls lt (inr (inr h)) (inr m) = absurd (omega (arith, h.0, m.0))
+tells-both : (a b c e l x y : ℕ) → c ≤ a → e ≤ b → Tells a c l x → Tells b e l y → Tells (max a b) (max (max (min a b) c) e) l (x + y)
+tells-both a b c e l x y ca eb (inl h) (inl m) = inl (omega (arith, h.0, m.0), omega (arith, h.1, m.1))
+tells-both a b c e l x y ca eb (inl h) (inr (inl m)) = inr (inl (omega (arith, h.0, m.0), omega (arith, m.1), omega (arith, h.1, m.2)))
+tells-both a b c e l x y ca eb (inl h) (inr (inr m)) = inr (inr (omega (arith, m.0), omega (arith, m.1)))
+tells-both a b c e l x y ca eb (inr (inl h)) (inl m) = inr (inl (omega (arith, h.0, m.0), omega (arith, h.1), omega (arith, h.2, m.1)))
+tells-both a b c e l x y ca eb (inr (inl h)) (inr (inl m)) = inr (inr (omega (arith, h.1, m.1), omega (arith, h.2, m.2)))
+tells-both a b c e l x y ca eb (inr (inl h)) (inr (inr m)) = inr (inr (omega (arith, m.0), omega (arith, m.1)))
+tells-both a b c e l x y ca eb (inr (inr h)) m = inr (inr (omega (arith, h.0), omega (arith, h.1)))
 
-between : (f s k l c new : ℕ) → k ≤ f → s < k → Tri f s l c → More k l c new → Tri f k l new
-between f s k l c new le lt (inl h) (inl m) = absurd (omega (arith, h.0, m.0))
-between f s k l c new le lt (inl h) (inr m) = inl (h.0, omega (arith, h.1, m.1))
-between f s k l c new le lt (inr (inl h)) (inl m) = inr (inr (m.0, omega (arith, h.2, m.1)))
-between f s k l c new le lt (inr (inl h)) (inr m) = inr (inl (m.0, h.1, omega (arith, h.2, m.1)))
-between f s k l c new le lt (inr (inr h)) (inl m) = inr (inr (m.0, omega (arith, h.1, m.1)))
-between f s k l c new le lt (inr (inr h)) (inr m) = absurd (omega (arith, h.0, m.0))
-
-higher : (f s k l c new : ℕ) → s ≤ f → k ≤ s → Tri f s l c → More k l c new → Tri f s l new
-higher f s k l c new falls le (inl h) (inl m) = absurd (omega (arith, h.0, m.0))
-higher f s k l c new falls le (inl h) (inr m) = inl (h.0, omega (arith, h.1, m.1))
-higher f s k l c new falls le (inr (inl h)) (inl m) = absurd (omega (arith, h.0, m.0))
-higher f s k l c new falls le (inr (inl h)) (inr m) = inr (inl (h.0, h.1, omega (arith, h.2, m.1)))
-higher f s k l c new falls le (inr (inr h)) (inl m) = inr (inr (h.0, omega (arith, h.1, m.1)))
-higher f s k l c new falls le (inr (inr h)) (inr m) = inr (inr (h.0, omega (arith, h.1, m.1)))
-
--- the two deepest levels tell how many digests share each level down to n
-record IsCounted (n : ℕ) (d : Digest) (ds : List Digest) (two : Deepest) : Type 0 where
-  falls : two.second ≤ two.first
-  most : two.first ≤ n
-  at : (l : ℕ) → l ≤ n → 0 < l → Tri two.first two.second l (sharing ds d l)
-
-counted-none : (n : ℕ) (d : Digest) → IsCounted n d [] (record { first = 0; second = 0 })
-counted-none n d = record { falls = omega arith; most = omega arith; at = λ l le some. inl (some, refl) }
+-- the two deepest levels of two groups
+pub deepest-both : (f g : ℕ → ℕ) (a b c e : ℕ) → AreDeepest f a c → AreDeepest g b e → AreDeepest (λ l. f l + g l) (max a b) (max (max (min a b) c) e)
+deepest-both f g a b c e one two =
+    let ca = one.falls in
+    let eb = two.falls in
+    let am = one.most in
+    let bm = two.most in
+    record { falls = omega arith; most = omega arith; at = λ l le some. tells-both a b c e l (f l) (g l) ca eb (one.at l le some) (two.at l le some) }
 
 -- how much a test adds to a count
-abbrev one_if : Bool → ℕ
+abbrev pub one_if : Bool → ℕ
 one_if b = cond b 1 0
 
-counts : (e d : Digest) (ds : List Digest) (k l : ℕ) → ((l ≤ k) × (shares e d l ≡ true)) ⊎ ((k < l) × (shares e d l ≡ false)) → More k l (sharing ds d l) (sharing (e ∷ ds) d l)
-counts e d ds k l (inl h) =
-    let sum : sharing (e ∷ ds) d l ≡ one_if (shares e d l) + sharing ds d l = sum_by-cons (λ (x : Digest). one_if (shares x d l)) e ds in
-    let e1 : one_if (shares e d l) ≡ 1 = ap one_if h.1 in
-    inl (h.0, omega (arith, e1, sum))
-counts e d ds k l (inr h) =
-    let sum : sharing (e ∷ ds) d l ≡ one_if (shares e d l) + sharing ds d l = sum_by-cons (λ (x : Digest). one_if (shares x d l)) e ds in
-    let e1 : one_if (shares e d l) ≡ 0 = ap one_if h.1 in
-    inr (h.0, omega (arith, e1, sum))
+-- the level that a digest shares with the one of a key, 0 where there is none
+abbrev pub IsLevel : {A : Type 0} → (A → List ℕ) → Digest → Option A → ℕ → Type 0
+IsLevel key d o n = MatchOption o (n ≡ 0) (λ x. n ≡ shared_level (record { bytes = key x }) d)
 
-counted-more : (n k : ℕ) (e d : Digest) (ds : List Digest) (two : Deepest) → k ≤ n → ((l : ℕ) → l ≤ n → ((l ≤ k) × (shares e d l ≡ true)) ⊎ ((k < l) × (shares e d l ≡ false)))
-    → IsCounted n d ds two → IsCounted n d (e ∷ ds) (with_level k two)
-counted-more n k e d ds two le cases counted = step (nat_lt two.first k) refl where
-  step : (b : Bool) → nat_lt two.first k ≡ b
-      → IsCounted n d (e ∷ ds) (cond b (record { first = k; second = two.first }) (record { first = two.first; second = cond (nat_lt two.second k) k two.second }))
-  step true test = let lt = ltb-true two.first k test in record {
-    falls = omega (arith, lt);
-    most = le;
-    at = λ l within some. deeper two.first two.second k l _ _ counted.falls lt (counted.at l within some) (counts e d ds k l (cases l within));
-  }
-  step false test = by (nat_lt two.second k) refl where
-    by : (b : Bool) → nat_lt two.second k ≡ b → IsCounted n d (e ∷ ds) (record { first = two.first; second = cond b k two.second })
-    by true other = record {
-      falls = ltb-false two.first k test;
-      most = counted.most;
-      at = λ l within some. between two.first two.second k l _ _ (ltb-false two.first k test) (ltb-true two.second k other) (counted.at l within some) (counts e d ds k l (cases l within));
-    }
-    by false other = record {
-      falls = counted.falls;
-      most = counted.most;
-      at = λ l within some. higher two.first two.second k l _ _ counted.falls (ltb-false two.second k other) (counted.at l within some) (counts e d ds k l (cases l within));
-    }
+-- of those that are counted one is taken, and the others share no level that it does not share
+abbrev pub Takes : {A : Type 0} → (A → List ℕ) → Digest → Option A → (ℕ → ℕ) → (ℕ → ℕ) → Type 0
+Takes key d o counts others =
+    MatchOption o ((l : ℕ) → (counts l ≡ 0) × (others l ≡ 0))
+    (λ x. (l : ℕ) → (counts l ≡ one_if (shares (record { bytes = key x }) d l) + others l) × (shares (record { bytes = key x }) d l ≡ false → others l ≡ 0))
+
+-- the first two that are taken have the deepest levels
+pub deepest-taken : {A : Type 0} (key : A → List ℕ) (d : Digest) (one two : Option A) (a c : ℕ) (counts others rest : ℕ → ℕ)
+    → IsLevel key d one a → IsLevel key d two c → Takes key d one counts others → Takes key d two others rest → AreDeepest counts a c
+deepest-taken {A} key d None None a c counts others rest first second takes more = record {
+  falls = omega arith;
+  most = omega arith;
+  at = λ l le some. inl (omega arith, (takes l).0);
+}
+deepest-taken {A} key d None (Some y) a c counts others rest first second takes more = absurd (let h = (takes 0).1 in let m = (more 0).0 in omega arith)
+deepest-taken {A} key d (Some x) None a c counts others rest first second takes more = record {
+  falls = omega arith;
+  most = let m = (level-cases (record { bytes = key x }) d).0 in omega arith;
+  at = λ l le some. step l some ((level-cases (record { bytes = key x }) d).1 l le);
+} where
+  step : (l : ℕ) → 0 < l → LevelCases (record { bytes = key x }) d l → Tells a c l (counts l)
+  step l some (inl h) = inr (inl (omega arith, omega (arith, h.0), omega (arith, (takes l).0, ap one_if h.1, (more l).0)))
+  step l some (inr h) = inl (omega (arith, h.0), omega (arith, (takes l).0, ap one_if h.1, (more l).0))
+deepest-taken {A} key d (Some x) (Some y) a c counts others rest first second takes more = record {
+  falls = falls ((level-cases (record { bytes = key x }) d).1 c within) ((level-cases (record { bytes = key y }) d).1 c within);
+  most = let m = (level-cases (record { bytes = key x }) d).0 in omega arith;
+  at = λ l le some. step l ((level-cases (record { bytes = key x }) d).1 l le) ((level-cases (record { bytes = key y }) d).1 l le);
+} where
+  within : c ≤ 62
+  within = let m = (level-cases (record { bytes = key y }) d).0 in omega arith
+
+  falls : LevelCases (record { bytes = key x }) d c → LevelCases (record { bytes = key y }) d c → c ≤ a
+  falls (inl h) m = omega (arith, h.0)
+  falls (inr h) (inl m) = absurd (omega (arith, (takes c).1 h.1, (more c).0, ap one_if m.1))
+  falls (inr h) (inr m) = absurd (omega (arith, m.0))
+
+  step : (l : ℕ) → LevelCases (record { bytes = key x }) d l → LevelCases (record { bytes = key y }) d l → Tells a c l (counts l)
+  step l (inl h) (inl m) = inr (inr (omega (arith, m.0), omega (arith, (takes l).0, ap one_if h.1, (more l).0, ap one_if m.1)))
+  step l (inl h) (inr m) = inr (inl (omega (arith, m.0), omega (arith, h.0), omega (arith, (takes l).0, ap one_if h.1, (more l).0, ap one_if m.1, (more l).1 m.1)))
+  step l (inr h) m = inl (omega (arith, h.0), omega (arith, (takes l).0, ap one_if h.1, (takes l).1 h.1))
+
+-- ---- the subtries
 
 -- the subtries down to a level are those between the two deepest levels
-subtries-between : (n : ℕ) (d : Digest) (ds : List Digest) (two : Deepest) → IsCounted n d ds two → (m : ℕ) → m ≤ n → new_subtries ds d m + min two.second m ≡ min two.first m
-subtries-between n d ds two counted zero le = omega arith
-subtries-between n d ds two counted (suc m) le = step (counted.at (suc m) le (omega arith)) (subtries-between n d ds two counted m (omega arith)) where
+subtries-between : (d : Digest) (ds : List Digest) (first second : ℕ) → AreDeepest (sharing ds d) first second → (m : ℕ) → m ≤ 62 → new_subtries ds d m + min second m ≡ min first m
+subtries-between d ds first second deepest zero le = omega arith
+subtries-between d ds first second deepest (suc m) le = step (deepest.at (suc m) le (omega arith)) (subtries-between d ds first second deepest m (omega arith)) where
   one : (c : ℕ) → c ≡ 1 → one_if (c == 1) ≡ 1
   one c is = ap one_if (eq-eqb c 1 is)
 
   other : (c : ℕ) → (c ≡ 1 → ⊥) → one_if (c == 1) ≡ 0
   other c differ = ap one_if (ne_eqb c 1 differ)
 
-  step : Tri two.first two.second (suc m) (sharing ds d (suc m)) → new_subtries ds d m + min two.second m ≡ min two.first m
-      → one_if (sharing ds d (suc m) == 1) + new_subtries ds d m + min two.second (suc m) ≡ min two.first (suc m)
-  step (inl h) below = let e = other (sharing ds d (suc m)) (λ is. omega (arith, h.1)) in let falls = counted.falls in let above = h.0 in omega arith
+  step : Tells first second (suc m) (sharing ds d (suc m)) → new_subtries ds d m + min second m ≡ min first m
+      → one_if (sharing ds d (suc m) == 1) + new_subtries ds d m + min second (suc m) ≡ min first (suc m)
+  step (inl h) below = let e = other (sharing ds d (suc m)) (λ is. omega (arith, h.1)) in let falls = deepest.falls in let above = h.0 in omega arith
   step (inr (inl h)) below = let e = one (sharing ds d (suc m)) h.2 in let above = h.0 in let within = h.1 in omega arith
-  step (inr (inr h)) below = let e = other (sharing ds d (suc m)) (λ is. omega (arith, h.1)) in let falls = counted.falls in let within = h.0 in omega arith
+  step (inr (inr h)) below = let e = other (sharing ds d (suc m)) (λ is. omega (arith, h.1)) in let falls = deepest.falls in let within = h.0 in omega arith
 
--- ---- with the levels of a trie
-
-level-cases : (e d : Digest) → (shared_level e d ≤ 62) × ((l : ℕ) → l ≤ 62 → ((l ≤ shared_level e d) × (shares e d l ≡ true)) ⊎ ((shared_level e d < l) × (shares e d l ≡ false)))
-unfolding shared_level
-level-cases e d = (shared-most e d 62, λ l le. shares-cases e d 62 l le)
-
-difference : (n : ℕ) (d : Digest) (ds : List Digest) (two : Deepest) → IsCounted n d ds two → (two.first - two.second ≡ new_subtries ds d n) × (two.second ≤ two.first) × (two.first ≤ n)
-difference n d ds two counted =
-    let e = subtries-between n d ds two counted n (omega arith) in
-    let falls = counted.falls in
-    let most = counted.most in
+-- the two deepest levels that a digest shares with others tell how many subtries it needs
+pub subtries-told : (d : Digest) (ds : List Digest) (first second : ℕ) → AreDeepest (sharing ds d) first second → (first - second ≡ needed_beside ds d) × (second ≤ first) × (first ≤ 62)
+unfolding needed_beside
+subtries-told d ds first second deepest =
+    let e = subtries-between d ds first second deepest 62 (omega arith) in
+    let falls = deepest.falls in
+    let most = deepest.most in
     (omega arith, falls, most)
 
--- ---- the digests of one shelf
+-- as many subtries are needed where as many digests share each level
+pub subtries-alike : (d : Digest) (ds es : List Digest) → ((l : ℕ) → sharing ds d l ≡ sharing es d l) → (n : ℕ) → new_subtries ds d n ≡ new_subtries es d n
+subtries-alike d ds es alike zero = refl
+subtries-alike d ds es alike (suc n) = λ i. one_if (alike (suc n) i == 1) + subtries-alike d ds es alike n i
 
--- a level 0 adds nothing
-level-none : (two : Deepest) → with_level 0 two ≡ two
-level-none two = (λ i. cond (no two.first i) (record { first = 0; second = two.first }) (record { first = two.first; second = cond (no two.second i) 0 two.second })) where
-  no : (n : ℕ) → nat_lt n 0 ≡ false
-  no n = le-ltb n 0 (omega arith)
+subtries-most : (d : Digest) (ds : List Digest) (n : ℕ) → new_subtries ds d n ≤ n
+subtries-most d ds zero = omega arith
+subtries-most d ds (suc n) = step (sharing ds d (suc n) == 1) (subtries-most d ds n) where
+  step : (b : Bool) → new_subtries ds d n ≤ n → one_if b + new_subtries ds d n ≤ suc n
+  step true h = omega arith
+  step false h = omega arith
 
--- digests that begin with different bytes share no level
-apart-first : (e d : Digest) → (slice_index e.bytes 0 ≡ slice_index d.bytes 0 → ⊥) → 0 ≡ shared_level e d
-apart-first e d differ =
-    level-found e d 0 (omega arith) refl
-    (λ some. parts-at e d 0 (slice_index e.bytes 0) (slice_index d.bytes 0) (index-first e.bytes 0 refl) (index-first d.bytes 0 refl) differ)
-
--- a digest of the space on another shelf begins with another byte
-apart-keys : (space other : Space) (e d : Digest) → same_space other space ≡ true → (shelf_key other e ≡ shelf_key space d → ⊥) → slice_index e.bytes 0 ≡ slice_index d.bytes 0 → ⊥
-apart-keys Objects Objects e d same differ is = differ (omega (arith, is))
-apart-keys Actions Actions e d same differ is = differ (omega (arith, is))
-apart-keys Objects Actions e d same differ is = cc
-apart-keys Actions Objects e d same differ is = cc
-
--- a digest of the other space is on another shelf
-apart-spaces : (space other : Space) (e d : Digest) → same_space other space ≡ false → shelf_key other e ≡ shelf_key space d → ⊥
-apart-spaces Objects Objects e d differ is = cc
-apart-spaces Actions Actions e d differ is = cc
-apart-spaces Objects Actions e d differ is = omega (arith, is)
-apart-spaces Actions Objects e d differ is = omega (arith, is)
-
-counted-rows : (space : Space) (d : Digest) (rows : List Record) → IsCounted 62 d (bound_in space rows) (deepest_of no_levels d (on_shelf rows (shelf_key space d)))
-counted-rows space d [] = counted-none 62 d
-counted-rows space d (r ∷ rs) = step (same_space r.space space) refl (eqb_tells (shelf_key r.space r.digest) (shelf_key space d)) (counted-rows space d rs) where
-  two : Deepest
-  two = deepest_of no_levels d (on_shelf rs (shelf_key space d))
-
-  more : IsCounted 62 d (bound_in space rs) two → IsCounted 62 d (r.digest ∷ bound_in space rs) (with_level (shared_level r.digest d) two)
-  more counted = let here = level-cases r.digest d in counted-more 62 (shared_level r.digest d) r.digest d (bound_in space rs) two here.0 here.1 counted
-
-  none : (shelf_key r.space r.digest ≡ shelf_key space d → ⊥) → same_space r.space space ≡ true → with_level (shared_level r.digest d) two ≡ two
-  none differ same = ap (λ n. with_level n two) (sym (apart-first r.digest d (apart-keys space r.space r.digest d same differ))) ∙ level-none two
-
-  step : (s : Bool) → same_space r.space space ≡ s
-      → (((shelf_key r.space r.digest == shelf_key space d) ≡ true) × (shelf_key r.space r.digest ≡ shelf_key space d)) ⊎ (((shelf_key r.space r.digest == shelf_key space d) ≡ false) × (shelf_key r.space r.digest ≢ shelf_key space d))
-      → IsCounted 62 d (bound_in space rs) two
-      → IsCounted 62 d (cond s (r.digest ∷ bound_in space rs) (bound_in space rs))
-      (deepest_of no_levels d (cond (shelf_key r.space r.digest == shelf_key space d) (r.digest ∷ on_shelf rs (shelf_key space d)) (on_shelf rs (shelf_key space d))))
-  step true same (inl h) counted =
-      subst (λ b. IsCounted 62 d (r.digest ∷ bound_in space rs) (deepest_of no_levels d (cond b (r.digest ∷ on_shelf rs (shelf_key space d)) (on_shelf rs (shelf_key space d))))) (sym h.0) (more counted)
-  step true same (inr h) counted =
-      subst (λ b. IsCounted 62 d (r.digest ∷ bound_in space rs) (deepest_of no_levels d (cond b (r.digest ∷ on_shelf rs (shelf_key space d)) (on_shelf rs (shelf_key space d))))) (sym h.0)
-      (subst (λ (t : Deepest). IsCounted 62 d (r.digest ∷ bound_in space rs) t) (none h.1 same) (more counted))
-  step false same (inl h) counted = absurd (apart-spaces space r.space r.digest d same h.1)
-  step false same (inr h) counted =
-      subst (λ b. IsCounted 62 d (bound_in space rs) (deepest_of no_levels d (cond b (r.digest ∷ on_shelf rs (shelf_key space d)) (on_shelf rs (shelf_key space d))))) (sym h.0) counted
-
--- the two deepest levels that a digest shares with those bound in its space tell how many subtries it needs
-pub needed-is : (bound : List Record) (space : Space) (d : Digest) (two : Deepest) → two ≡ deepest_of no_levels d (on_shelf bound (shelf_key space d))
-    → (two.first - two.second ≡ needed bound space d) × (two.second ≤ two.first) × (two.first ≤ 62)
-unfolding needed
-needed-is bound space d two is =
-    subst (λ (t : Deepest). (t.first - t.second ≡ new_subtries (bound_in space bound) d 62) × (t.second ≤ t.first) × (t.first ≤ 62)) (sym is)
-    (difference 62 d (bound_in space bound) (deepest_of no_levels d (on_shelf bound (shelf_key space d))) (counted-rows space d bound))
+-- what the bound digests of a space need already
+pub needed-is : (bound : List Record) (space : Space) (d : Digest) (ds : List Digest) → ((l : ℕ) → sharing ds d l ≡ sharing (bound_in space bound) d l) → needed_beside ds d ≡ needed bound space d
+unfolding needed needed_beside
+needed-is bound space d ds alike = subtries-alike d ds (bound_in space bound) alike 62
 
 pub needed-most : (bound : List Record) (space : Space) (d : Digest) → needed bound space d ≤ 62
-needed-most bound space d =
-    let h = needed-is bound space d (deepest_of no_levels d (on_shelf bound (shelf_key space d))) refl in
-    let e = h.0 in
-    let most = h.2 in
-    omega arith
+unfolding needed
+needed-most bound space d = subtries-most d (bound_in space bound) 62

@@ -2,6 +2,9 @@ pub mod Laid
 pub mod Opened
 pub mod RowLists
 pub mod Depths
+pub mod KeyCounts
+pub mod DigestOrder
+pub mod Neighbours
 pub mod PlainOpens
 pub mod RowsGrow
 pub mod PlainTies
@@ -20,4 +23,5 @@ pub mod HeldContents
 pub mod WrittenHeads
 pub mod OneContent
 pub mod KeptRecord
+pub mod IndexDigests
 pub mod IndexRows

@@ -1,5 +1,5 @@
 -- Maps that answer as the rows of a plain port do.
-use Rattle.std.specs.Prelude.{◌≡◌, ℕ, List, None, Some}
+use Rattle.std.specs.Prelude.{◌≡◌, ℕ, List, ◌∷◌, cond, None, Some}
 use Rattle.std.specs.declared.option.Option.{Option}
 use Rattle.std.specs.BTreeMap as tree
 use Rattle.std.specs.Ordering.{nat_cmp}
@@ -10,7 +10,10 @@ use Rattle.cas_model.specs.declared.place.Space.{Space}
 use Rattle.cas_model.specs.declared.place.Space.TheVariants.{Objects, Actions}
 use Rattle.cas_model.specs.declared.tables.Cell.{Cell}
 use Rattle.cas_model.specs.declared.tables.Record.{Record}
-use Rattle.cas_model.specs.Tables.{place_of, record_at, cell_of}
+use Rattle.cas_model.specs.Tables.{place_of, record_at, cell_of, same_space}
+use Rattle.cas_model.specs.Trie.{sharing}
+use Rattle.cell_port.specs.Depth.{digests_of}
+use Rattle.cell_port.specs.Needed.{bound_in}
 use Rattle.cell_port.specs.declared.index.Index.{Index}
 use Rattle.cell_port.specs.declared.shown.Shown.{Shown}
 use Rattle.cell_port.specs.Shown.{number_at}
@@ -24,10 +27,25 @@ indexed_place index Actions digest = tree.get (slice_cmp nat_cmp) index.actions 
 abbrev pub indexed_record : Index → ℕ → Option Record
 indexed_record index at = tree.get nat_cmp index.records at
 
+-- the digests that the maps have in a space, in the order of their bytes
+abbrev pub indexed_digests : Index → Space → List Digest
+indexed_digests index Objects = digests_of (tree.keys index.objects)
+indexed_digests index Actions = digests_of (tree.keys index.actions)
+
+-- as many digests of each space share each level with each digest
+abbrev pub HasAsMany : Index → Index → Type 0
+HasAsMany index other = (space : Space) (digest : Digest) (level : ℕ) → sharing (indexed_digests other space) digest level ≡ sharing (indexed_digests index space) digest level
+
+-- with the digest of a record there are as many
+abbrev pub HasOneMore : Index → Index → Record → Type 0
+HasOneMore index more r = (space : Space) (digest : Digest) (level : ℕ) → sharing (indexed_digests more space) digest level
+    ≡ sharing (cond (same_space r.space space) (r.digest ∷ indexed_digests index space) (indexed_digests index space)) digest level
+
 -- the maps answer as the rows of bound digests do
 pub record IndexesBound (index : Index) (bound : List Record) : Type 0 where
   pub places : (space : Space) → (digest : Digest) → indexed_place index space digest ≡ place_of bound space digest
   pub records : (at : ℕ) → indexed_record index at ≡ record_at bound at
+  pub digests : (space : Space) (digest : Digest) (level : ℕ) → sharing (indexed_digests index space) digest level ≡ sharing (bound_in space bound) digest level
 
 -- a value, 0 where there is none
 abbrev pub value_or_0 : Option ℕ → ℕ

@@ -4,7 +4,6 @@ pub mod Calls
 pub mod Tables
 pub mod Needed
 pub mod Depth
-pub mod Shelves
 pub mod Index
 pub mod FilledRows
 pub mod Shown

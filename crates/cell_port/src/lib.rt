@@ -14,10 +14,8 @@ mod parts;
 mod plain;
 mod port;
 mod searches;
-mod shelves;
 mod shown;
 mod steps;
-mod subtries;
 mod tables;
 #[cfg(test)]
 mod tests;

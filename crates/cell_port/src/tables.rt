@@ -6,7 +6,6 @@ ghost use Rattle.cell_port.specs.Tables.{empty_rows, as_start};
 
 use crate::index::Index;
 use crate::searches::find_words;
-use crate::shelves::Shelves;
 use cas_model::{Cell, Content, Digest, Place, Record, Space, Words};
 use std::alloc::{AllocError, Global};
 use std::collections::{BTreeMap, VecDeque};
@@ -14,7 +13,7 @@ use std::marker::Model;
 
 /// The tables of a region as plain lists, each with the newest row first: the rows of the start, and those that came
 /// after it. The contents that a run publishes have no rows: their words are in the run's events. Beside the lists are maps
-/// that find a bound digest, a record and a filled cell, and the bound digests on shelves, for the subtries of a new one.
+/// that find a bound digest, a record and a filled cell.
 #[derive(Drop)]
 pub struct PlainTables {
     size: u64,
@@ -27,7 +26,6 @@ pub struct PlainTables {
     cells: VecDeque<Cell>,
     contents: VecDeque<Content>,
     index: Index,
-    shelves: Shelves,
     // The value of each filled cell, by the place of its record.
     values: BTreeMap<u64, u64>,
 }
@@ -35,7 +33,6 @@ pub struct PlainTables {
 impl Model for PlainTables {
     ghost use Rattle.std.specs.Prelude.{◌≤◌, ◌++◌, []};
     ghost use Rattle.cell_port.specs.Index.{IndexesBound, IndexesCells};
-    ghost use Rattle.cell_port.specs.Shelves.{HasShelves};
     ghost use Rattle.cell_port.specs.Tables.{PlainRows};
 
     ghost Value = { PlainRows };
@@ -48,7 +45,7 @@ impl Model for PlainTables {
       blocks = t.contents.items ++ t.old_contents.items;
     } };
 
-    ghost invariant = { λ t. (t.counter ≤ t.size) × (t.size ≤ 67108864) × IndexesBound t.index (t.records.items ++ t.old_records.items) × HasShelves t.shelves (t.records.items ++ t.old_records.items) × IndexesCells t.values (t.cells.items ++ t.old_cells.items) };
+    ghost invariant = { λ t. (t.counter ≤ t.size) × (t.size ≤ 67108864) × IndexesBound t.index (t.records.items ++ t.old_records.items) × IndexesCells t.values (t.cells.items ++ t.old_cells.items) };
 }
 
 impl PlainTables {
@@ -69,7 +66,6 @@ impl PlainTables {
             cells: VecDeque::new(alloc),
             contents: VecDeque::new(alloc),
             index: Index::new(alloc),
-            shelves: Shelves::new(alloc)?,
             values: BTreeMap::new(alloc),
         })
     }
@@ -145,8 +141,7 @@ impl PlainTables {
         ensures count { result ≡ needed self.now.bound space digest.now }
         ensures most { result ≤ 62 }
     {
-        let two = self.shelves.deepest(space, digest);
-        two.first - two.second
+        self.index.new_subtries(space, digest)
     }
 
     /// Moves the counter.
@@ -164,11 +159,7 @@ impl PlainTables {
         ensures err { OnErr result (self.new ≡ self.old) }
     {
         self.records.reserve(1)?;
-        self.shelves.add(&record_)?;
-        if self.index.bind(record_).is_err() {
-            self.shelves.take_newest(&record_);
-            return Err(AllocError);
-        }
+        self.index.bind(record_)?;
         self.records.push_front_reserved(record_);
         Ok(())
     }
@@ -219,7 +210,6 @@ impl PlainTables {
             cells,
             contents,
             index,
-            shelves,
             values,
         } = self;
         PlainTables {
@@ -233,7 +223,6 @@ impl PlainTables {
             cells: no_cells,
             contents: no_contents,
             index,
-            shelves,
             values,
         }
     }

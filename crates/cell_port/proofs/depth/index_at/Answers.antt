@@ -1,6 +1,6 @@
 use Rattle.std.proofs.Common.{◌<◌, arith}
 use Rattle.cell_port.proofs.Depths.{index-first, index-high, index-low}
-use Rattle.cell_port.proofs.subtries.index_at.Goals as goal
+use Rattle.cell_port.proofs.depth.index_at.Goals as goal
 
 pub returns-then-level-eq0 : goal.returns-then-level-eq0
 returns-then-level-eq0 c = index-first c.args.digest.now.bytes c.args.level c.if-level-eq0.true
