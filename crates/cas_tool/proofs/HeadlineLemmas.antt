@@ -20,7 +20,6 @@ use Rattle.image_file.specs.Image.{image_bytes}
 use Rattle.region_core.specs.Builds.{empty_region}
 use Rattle.cas_tool.specs.declared.answer.Answer.{Answer}
 use Rattle.cas_tool.specs.declared.answer.Answer.TheVariants.{Done, Missing, Usage, ReadFault, WriteFault, FolderFault, Damaged, Full, Poisoned, Dangling, BadScript, Held, TooLarge, NoMemory}
-use Rattle.cas_tool.specs.declared.closing.Images.{Images}
 use Rattle.cas_tool.specs.declared.command.Options.{Options}
 use Rattle.cas_tool.specs.declared.front.Front.{Front}
 use Rattle.cas_tool.specs.declared.front.Run.{Run}

@@ -40,7 +40,6 @@ use Rattle.cas_tool.specs.Output.{Reports, refusal_of}
 use Rattle.cas_tool.specs.Room.{HasCause, HasRoom, IsNotFull, IsRoomy, IsShort, IsUnrefused, calls_of_sessions}
 use Rattle.cas_tool.specs.Run.{Because, Outside, Prepares, World}
 use Rattle.cas_tool.proofs.HistoryLemmas.{all-conduct}
-use Rattle.cas_tool.specs.Words.{first_size}
 use Rattle.cas_tool.proofs.RunLemmas.{of-refused, upkeep-text}
 use Rattle.cas_tool.proofs.ShownLemmas.{HasRun, answered-ran, shows-run}
 use Rattle.cas_tool.proofs.RoomLemmas.{AreNotFull, none-full, none-refused, session-replies-fit}

@@ -27,7 +27,6 @@ use Rattle.cas_tool.specs.declared.answer.Answer.TheVariants.{Done, Missing, Usa
 use Rattle.cas_tool.specs.declared.command.Options.{Options}
 use Rattle.cas_tool.specs.declared.closing.Images.{Images}
 use Rattle.cas_tool.specs.declared.command.Request.{Request}
-use Rattle.cas_tool.specs.declared.command.Setting.TheVariants.{Size}
 use Rattle.cas_tool.specs.declared.command.Task.{Task}
 use Rattle.cas_tool.specs.declared.command.Task.TheVariants.{Once, Batch, Workload, Validate, Prune}
 use Rattle.cas_tool.specs.declared.command.Verb.{Verb}

@@ -1,5 +1,5 @@
 -- What a caller concludes: the tree of a digest that its call names is the call's, whose the events are, what a refusal decides, and what trees cost.
-use Rattle.std.proofs.Common.{◌≡◌, ℕ, ◌+◌, ◌≤◌, List, [], ◌∷◌, ◌++◌, Bool, inr, Some, refl, ap, sym, arith, subst}
+use Rattle.std.proofs.Common.{◌≡◌, ℕ, ◌+◌, List, [], ◌∷◌, ◌++◌, Bool, inr, Some, refl, sym, arith, subst}
 use Rattle.cas_model.specs.declared.call.Call.{Call}
 use Rattle.cas_model.specs.declared.call.Reply.TheVariants as reply
 use Rattle.cas_model.specs.declared.call.Who.{Who}

@@ -9,14 +9,12 @@ use Rattle.cas_model.specs.declared.call.Reply.TheVariants as reply
 use Rattle.cas_model.specs.declared.call.Who.{Who}
 use Rattle.cas_model.specs.declared.digest.Digest.{Digest}
 use Rattle.cas_model.specs.declared.note.Stage.TheVariants.{Deep}
-use Rattle.cas_model.specs.declared.place.Space.TheVariants.{Objects}
 use Rattle.cas_model.specs.Primary.{primary}
 use Rattle.cas_model.specs.State.{State, has}
 use Rattle.cas_model.specs.Tables.{Tables}
 use Rattle.cas_history.specs.declared.event.Act.{Act}
-use Rattle.cas_history.specs.declared.event.Act.TheVariants.{Look}
 use Rattle.cas_history.specs.declared.event.Event.{Event}
-use Rattle.cas_history.specs.Conduct.{MayAct, is_shallow, missed}
+use Rattle.cas_history.specs.Conduct.{is_shallow, missed}
 use Rattle.cas_history.specs.Cost.{own_cost}
 use Rattle.cas_history.specs.History.{decided_at, reply_where}
 use Rattle.cas_history.specs.Run.{tables as tables_after}
@@ -31,14 +29,14 @@ use Rattle.fault_in.specs.FaultIn.{FaultInStops, IsWholeNow}
 use Rattle.fault_in.specs.Tree.{HasTree}
 use Rattle.fault_in.proofs.Called.{tree-of-root}
 use Rattle.fault_in.proofs.Steps.{brings-goes}
-use Rattle.graph_db.specs.Events.{AreOf, Ends, Goes, Last, seen_state}
+use Rattle.graph_db.specs.Events.{AreOf, Ends, Goes, Last}
 use Rattle.graph_db.specs.Holds.{HasSought, MaySeek, SeekStops}
 use Rattle.graph_db.specs.Parts.{IsLawfulOrSame}
 use Rattle.graph_db.proofs.Found.{seek-stops, sought-ends}
 use Rattle.graph_db.proofs.Steps.{goes-then, goes-upstream, reads-goes}
 use Rattle.action_cache.specs.Brings.{AreDeepLooks, BringStops, HasBrought, LooksThenKeeps, deep_note}
 use Rattle.action_cache.specs.Gets as gets
-use Rattle.action_cache.specs.Keys.{GoesOnKey, MaySeekKey, kept_reply, key_note}
+use Rattle.action_cache.specs.Keys.{MaySeekKey, kept_reply, key_note}
 use Rattle.action_cache.proofs.KeySteps.{key-goes}
 use Rattle.generations.specs.Answers.{Answers}
 use Rattle.generations.specs.Over.{EndsEarly, HasTreeIn, IsUnderWay, TreeStops}

@@ -1,5 +1,5 @@
 -- A load over an upstream.
-use Rattle.std.proofs.Common.{◌≡◌, ◌↔◌, Bool, true, false, not, Ok, Err, IfOk, IfErr, OnErr, Some, None, inl, inr, refl, ap, sym, ◌∙◌, subst, arith}
+use Rattle.std.proofs.Common.{◌≡◌, true, not, Ok, Err, IfOk, IfErr, OnErr, None, inl, inr, refl, ap, ◌∙◌, subst, arith}
 use Rattle.std.specs.declared.alloc.AllocError.{AllocError}
 use Rattle.std.specs.declared.result.Result.{Result}
 use Rattle.std.specs.FinMap as fin
@@ -21,15 +21,14 @@ use Rattle.fault_in.specs.declared.error.FaultInError.TheVariants as fault
 use Rattle.fault_in.specs.FaultIn.{FaultInStops, IsWholeNow}
 use Rattle.fault_in.specs.Tree.{HasTree}
 use Rattle.fault_in.proofs.Called.{tree-of-root}
-use Rattle.graph_db.specs.Events.{Ends, seen_state}
+use Rattle.graph_db.specs.Events.{Ends}
 use Rattle.graph_db.specs.Loads as loads
 use Rattle.graph_db.specs.Parts.{IsLawfulOrSame}
 use Rattle.graph_db.specs.Stores as stores
 use Rattle.graph_db.proofs.Steps.{goes-upstream, reads-goes}
 use Rattle.generations.specs.Answers.{Answers, LoadStops}
 use Rattle.generations.specs.Over.{EndsEarly, IsUnderWay, LoadEndsEarly, answer_of}
-use Rattle.generations.specs.Upstream.{NeedsTree}
-use Rattle.generations.proofs.UnderWay.{has-later, missed-own, needs-tree, told-error, under-answers, under-early, under-self, under-stops, under-then, under-tree}
+use Rattle.generations.proofs.UnderWay.{has-later, missed-own, needs-tree, under-answers, under-early, under-self, under-stops, under-then, under-tree}
 
 early : (who : Who) (d : Digest) (old new : View) (error : FaultInError) → EndsEarly who (Load d) old new error → LoadEndsEarly who d old new error
 early who d old new (fault.Full full) h = h

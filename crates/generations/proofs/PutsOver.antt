@@ -1,5 +1,5 @@
 -- A put over an upstream.
-use Rattle.std.proofs.Common.{◌≡◌, ℕ, ◌≤◌, [], ◌∷◌, Bool, true, false, not, ◌&&◌, Ok, Err, Some, None, IfOk, IfErr, inl, inr, refl, ap, sym, ◌∙◌, subst, arith}
+use Rattle.std.proofs.Common.{◌≡◌, ℕ, [], ◌∷◌, Bool, true, false, not, ◌&&◌, Ok, Err, Some, None, IfOk, IfErr, inl, inr, refl, ap, sym, ◌∙◌, subst, arith}
 use Rattle.std.specs.declared.option.Option.{Option}
 use Rattle.std.specs.declared.result.Result.{Result}
 use Rattle.std.specs.FinMap as fin
@@ -12,12 +12,12 @@ use Rattle.cas_model.specs.declared.note.Stage.TheVariants.{Key}
 use Rattle.cas_model.specs.Primary.{primary}
 use Rattle.cas_model.specs.State.{State, has}
 use Rattle.cas_model.specs.Tables.{Tables}
-use Rattle.cas_history.specs.Conduct.{AreThere, is_key, is_shallow, missed}
+use Rattle.cas_history.specs.Conduct.{AreThere, is_shallow, missed}
 use Rattle.cas_history.specs.History.{decided, decided_at, kept, reply_where}
 use Rattle.cas_history.specs.Run.{tables as tables_after}
 use Rattle.cell_port.specs.declared.block.PortError.{PortError}
 use Rattle.cell_port.specs.Calls.{IsLawful}
-use Rattle.cell_port.specs.View.{View, tables}
+use Rattle.cell_port.specs.View.{View}
 use Rattle.fault_in.specs.declared.error.FaultInError.{FaultInError}
 use Rattle.fault_in.specs.declared.error.FaultInError.TheVariants as fault
 use Rattle.fault_in.specs.Errors.{fault_in_error}
@@ -26,19 +26,18 @@ use Rattle.fault_in.specs.Tree.{HasTree}
 use Rattle.fault_in.proofs.Called.{tree-of-root}
 use Rattle.graph_db.specs.declared.error.StoreError.{StoreError}
 use Rattle.graph_db.specs.declared.error.StoreError.TheVariants as error
-use Rattle.graph_db.specs.Events.{Ends, Last, Stands, seen_state}
+use Rattle.graph_db.specs.Events.{Ends, Last, Stands}
 use Rattle.graph_db.specs.Holds.{HasSought, SeekStops}
 use Rattle.graph_db.specs.Parts.{IsLawfulOrSame}
 use Rattle.graph_db.specs.Stores.{ref_note}
 use Rattle.graph_db.proofs.Found.{found-here, seek-stops, sought-ends, sought-last}
-use Rattle.graph_db.proofs.Steps.{goes-then, goes-upstream, reads-goes}
+use Rattle.graph_db.proofs.Steps.{goes-upstream, reads-goes}
 use Rattle.action_cache.specs.Brings.{BringStops, HasBrought}
-use Rattle.action_cache.specs.Keys.{HasFoundKey, HasSoughtKey, KeyStops, MaySeekKey, key_note, kept_reply}
+use Rattle.action_cache.specs.Keys.{HasFoundKey, HasSoughtKey, KeyStops, MaySeekKey, key_note}
 use Rattle.action_cache.specs.Puts.{HasKept, IsRefused, LacksValue}
 use Rattle.action_cache.proofs.KeyKept.{key-missed, sought-says}
 use Rattle.generations.specs.Answers.{Answers, Stops}
 use Rattle.generations.specs.Over.{EndsEarly, FindsValue, HasFoundValue, HasTreeIn, IsAbsentValue, IsUnderWay, TreeStops, ValueStops, kept_as, misses_of}
-use Rattle.generations.specs.Upstream.{NeedsTree}
 use Rattle.generations.proofs.GetsOver.{brought-answers, brought-early}
 use Rattle.generations.proofs.UnderWay.{has-later, missed-key, needs-tree, there-later, under-answers, under-early, under-ended, under-self, under-stops, under-then, under-tree}
 

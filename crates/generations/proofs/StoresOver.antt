@@ -1,9 +1,8 @@
 -- A store over an upstream.
-use Rattle.std.proofs.Common.{◌≡◌, ◌↔◌, ℕ, zero, suc, ◌+◌, ◌≤◌, List, [], ◌∷◌, ◌++◌, Bool, true, false, not, ◌&&◌, ◌==◌, ◌⊎◌, Ok, Err, Some, None, IfOk, IfErr, inl, inr, refl, ap, sym, ◌∙◌, subst, arith, slice_get, take, length, add-zero}
+use Rattle.std.proofs.Common.{◌≡◌, ◌↔◌, ℕ, zero, suc, ◌+◌, List, [], ◌∷◌, ◌++◌, Bool, true, false, not, ◌&&◌, ◌==◌, ◌⊎◌, Ok, Err, Some, None, IfOk, IfErr, inl, inr, refl, ap, sym, ◌∙◌, subst, arith, slice_get, take, length, add-zero}
 use Rattle.std.specs.declared.option.Option.{Option}
 use Rattle.std.specs.declared.result.Result.{Result}
 use Rattle.std.proofs.lemmas.Bool.{eqb-true}
-use Rattle.cas_model.specs.declared.call.Call.{Call}
 use Rattle.cas_model.specs.declared.call.Call.TheVariants.{Store}
 use Rattle.cas_model.specs.declared.call.Reply.{Reply}
 use Rattle.cas_model.specs.declared.call.Reply.TheVariants as reply
@@ -11,19 +10,18 @@ use Rattle.cas_model.specs.declared.call.Who.{Who}
 use Rattle.cas_model.specs.declared.digest.Digest.{Digest}
 use Rattle.cas_model.specs.declared.object.Object.{Object}
 use Rattle.cas_model.specs.declared.place.Space.TheVariants.{Objects}
-use Rattle.cas_model.specs.Object.{digest_of, object_digest}
+use Rattle.cas_model.specs.Object.{digest_of}
 use Rattle.cas_model.specs.Primary.{primary}
-use Rattle.cas_model.specs.State.{State, HasAll, Member, has}
+use Rattle.cas_model.specs.State.{State, HasAll, has}
 use Rattle.cas_model.specs.Tables.{Tables}
-use Rattle.cas_history.specs.declared.event.Act.{Act}
 use Rattle.cas_history.specs.declared.event.Act.TheVariants.{Look}
 use Rattle.cas_history.specs.declared.event.Answer.{Answer}
 use Rattle.cas_history.specs.declared.event.Answer.TheVariants.{Looked, Bound, Value, Given, Refused, Won, Lost}
 use Rattle.cas_history.specs.declared.event.Event.{Event}
 use Rattle.cas_history.specs.Answers.{answer}
-use Rattle.cas_history.specs.Conduct.{AreThere, MayLookFor, found_ref, is_own, is_shallow, missed}
+use Rattle.cas_history.specs.Conduct.{AreThere, MayLookFor, found_ref, is_shallow, missed}
 use Rattle.cas_history.specs.Cost.{object_cost}
-use Rattle.cas_history.specs.History.{dangling, decided_at, is_miss, left_by, read_by, reply_where, reply_with, shows_miss, value_left, value_read}
+use Rattle.cas_history.specs.History.{dangling, decided_at, read_by, reply_where, reply_with, shows_miss, value_left, value_read}
 use Rattle.cas_history.specs.Run.{tables as tables_after}
 use Rattle.cell_port.specs.Calls.{IsLawful}
 use Rattle.cell_port.specs.View.{View}
@@ -40,14 +38,12 @@ use Rattle.graph_db.specs.Events.{Ends, Goes, IsBrought, Last, SpeaksFor, seen_s
 use Rattle.graph_db.specs.Events as graph
 use Rattle.graph_db.specs.Holds.{HasSought, MaySeek, SeekStops}
 use Rattle.graph_db.specs.Parts.{IsLawfulOrSame}
-use Rattle.graph_db.specs.Stores.{HasStored, IsDangling, IsRefused, object_with, own_note, ref_note}
+use Rattle.graph_db.specs.Stores.{HasStored, IsRefused, object_with, own_note, ref_note}
 use Rattle.graph_db.proofs.Found.{found-here, lawful-same-then, length-taken, missed-here, seek-stops, sought-ends, sought-last}
 use Rattle.graph_db.proofs.Steps.{ends-self, ends-then, goes-self, goes-speaks, goes-then, goes-upstream, reads-goes, reads-self, reads-then, stops-more, then-stops}
-use Rattle.generations.specs.declared.storing.FoundRefs.{FoundRefs}
 use Rattle.generations.specs.Answers.{Answers}
-use Rattle.generations.specs.Over.{AnswersKnown, AreVisible, BringsRefs, EndsEarly, FindStops, HasMissedOne, HasRefsIn, IsAbsent, IsUnderWay, KnownEndsEarly, LacksOne, Misses, RefsStop, SeeksRefs, SettleStops, SettlesRefs, misses_of, stored_as}
-use Rattle.generations.specs.Upstream.{NeedsTree}
-use Rattle.generations.proofs.UnderWay.{all-later, has-later, lacked-earlier, lawful-or, missed-later, missed-own, needs-tree, there-later, under-answers, under-early, under-self, under-stops, under-then, under-tree, visible-later}
+use Rattle.generations.specs.Over.{AnswersKnown, AreVisible, BringsRefs, EndsEarly, FindStops, HasRefsIn, IsAbsent, IsUnderWay, KnownEndsEarly, Misses, RefsStop, SeeksRefs, SettleStops, SettlesRefs, misses_of, stored_as}
+use Rattle.generations.proofs.UnderWay.{all-later, has-later, lacked-earlier, lawful-or, missed-later, needs-tree, there-later, under-answers, under-early, under-self, under-stops, under-then, under-tree, visible-later}
 
 -- ---- lists
 

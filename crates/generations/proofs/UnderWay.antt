@@ -30,7 +30,7 @@ use Rattle.cell_port.specs.Calls.{IsLawful}
 use Rattle.cell_port.specs.View.{View, tables}
 use Rattle.fault_in.specs.declared.error.FaultInError.{FaultInError}
 use Rattle.fault_in.specs.declared.error.FaultInError.TheVariants as fault
-use Rattle.fault_in.specs.FaultIn.{Costs, FaultInStops, HasFaultedIn, HasNoMemory, HasNoRoom, IsWholeNow}
+use Rattle.fault_in.specs.FaultIn.{Costs, FaultInStops, HasFaultedIn, HasNoRoom, IsWholeNow}
 use Rattle.fault_in.specs.Tree.{AreMissing, HasRows, HasTree, deep_note}
 use Rattle.fault_in.proofs.Called.{cost-together, refused-goes, refused-last, rows-together}
 use Rattle.fault_in.proofs.Ended.{up-has, up-lacks}

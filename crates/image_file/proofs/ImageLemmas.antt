@@ -15,7 +15,7 @@ use Rattle.region_check.specs.declared.flaw.CheckError.TheVariants as check
 use Rattle.region_check.specs.declared.flaw.Flaw.{Flaw}
 use Rattle.image_file.specs.declared.error.ImageError.{ImageError}
 use Rattle.image_file.specs.declared.error.ImageError.TheVariants as errors
-use Rattle.image_file.specs.Image.{image_bytes, body_of, sum_of, image_words, HasLength, HasOtherVersion, HasSum, IsWhole, RefusesImage, RefusesSum}
+use Rattle.image_file.specs.Image.{image_bytes, body_of, sum_of, image_words, HasLength, HasOtherVersion, IsWhole, RefusesImage}
 
 -- ---- writing
 

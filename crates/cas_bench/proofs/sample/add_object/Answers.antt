@@ -1,4 +1,4 @@
-use Rattle.std.proofs.Common.{arith, sym, ap, subst, ◌∙◌}
+use Rattle.std.proofs.Common.{sym, ap, subst, ◌∙◌}
 use Rattle.cas_model.specs.Object.{digest_of}
 use Rattle.cas_model.specs.State.{digest_cmp}
 use Rattle.std.specs.BTreeMap.{is_at}

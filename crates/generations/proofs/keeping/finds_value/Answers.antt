@@ -1,5 +1,4 @@
 -- what the search for the value leaves
-use Rattle.graph_db.proofs.Steps.{on-err-then}
 use Rattle.generations.proofs.AloneLemmas.{on-error}
 use Rattle.generations.proofs.PutsOver.{value-found, value-stops, value-told}
 use Rattle.generations.proofs.keeping.finds_value.Goals as goal

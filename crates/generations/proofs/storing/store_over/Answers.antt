@@ -1,7 +1,5 @@
 -- what the store leaves, as one call
 use Rattle.std.proofs.Common.{sym, ◌∙◌}
-use Rattle.cas_model.specs.Primary.{primary}
-use Rattle.cas_model.specs.State.{has}
 use Rattle.generations.proofs.StoresOver.{known-err, known-ok}
 use Rattle.generations.proofs.storing.store_over.Goals as goal
 

@@ -1,4 +1,3 @@
-use Rattle.std.proofs.Common.{◌≤◌, length, subst, sym, ap, arith}
 use Rattle.image_file.proofs.ImageLemmas.{at-most}
 use Rattle.image_file.proofs.writing.image_of.Goals as goal
 
