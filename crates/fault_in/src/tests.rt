@@ -128,10 +128,7 @@ fn store_diamond<'u>(port: &mut PlainPort<'u, NoUpstream>) -> Result<Digest, Sto
 }
 
 // A chain of so many objects, each of which names the one before it.
-fn store_chain<'u>(
-    port: &mut PlainPort<'u, NoUpstream>,
-    count: u32,
-) -> Result<Digest, StoreError> {
+fn store_chain<'u>(port: &mut PlainPort<'u, NoUpstream>, count: u32) -> Result<Digest, StoreError> {
     let mut last = store_in(port, 0, &[], b"end")?;
     for index in 1..count {
         last = store_in(port, index, &[last], b"link")?;
