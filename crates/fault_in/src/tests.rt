@@ -153,26 +153,20 @@ fn a_chain_of_1000_objects_is_brought_in(rt: HostRuntime) -> Result<(), Fail> {
     Ok(())
 }
 
-// A node that names so many leaves, each of other data.
-fn store_wide<'u>(
-    alloc: Global,
-    port: &mut PlainPort<'u, NoUpstream>,
-    count: u16,
-) -> Result<Digest, StoreError> {
-    let mut leaves = Vec::new(alloc);
-    for leaf in 0..count {
-        let digest = store_in(port, u32::from(leaf), &[], leaf.to_le_bytes().as_slice())?;
-        if leaves.push(digest).is_err() {
-            return Err(StoreError::Memory);
-        }
+// A node that names 300 leaves, each of other data.
+fn store_wide<'u>(port: &mut PlainPort<'u, NoUpstream>) -> Result<Digest, StoreError> {
+    let mut leaves = [ABSENT; 300];
+    for leaf in 0..300_u16 {
+        let bytes = leaf.to_le_bytes();
+        leaves[usize::from(leaf)] = store_in(port, u32::from(leaf), &[], bytes.as_slice())?;
     }
-    store_in(port, u32::from(count), &leaves, b"wide")
+    store_in(port, 300, &leaves, b"wide")
 }
 
 #[test]
 fn a_node_with_300_references_is_brought_in(rt: HostRuntime) -> Result<(), Fail> {
     let mut origin = PlainPort::new(rt.alloc(), LARGE)?;
-    let wide = store_wide(rt.alloc(), &mut origin, 300).expect(&rt, "it fits");
+    let wide = store_wide(&mut origin).expect(&rt, "it fits");
     assert_eq!(rt; brought(rt.alloc(), &origin, &wide)?, Some(301));
     Ok(())
 }
