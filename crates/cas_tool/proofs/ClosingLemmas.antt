@@ -36,9 +36,6 @@ use Rattle.cas_tool.specs.Rotation.{IsNextDue}
 
 -- ---- maps
 
-may-same : {X : Type 0} (a b : fin.FinMap digest_cmp X) → b ≡ a → MayGrow a b
-may-same a b same = inl same
-
 may-then : {X : Type 0} (a b c : fin.FinMap digest_cmp X) → MayGrow a b → MayGrow b c → MayGrow a c
 may-then a b c ab bc = elim ab [
   | inl same ↦ subst (λ m. MayGrow m c) same bc

@@ -17,11 +17,6 @@ led [] some low high more = absurd (omega arith)
 led (digit ∷ []) some low high more = grind arith
 led (first ∷ next ∷ bytes) some low high more = let above : 49 ≤ first = more (omega arith) in grind arith
 
--- what leads with so many bytes
-leads-some : (text : List ℕ) → leads text ≡ true → 0 < length text
-leads-some [] is = cc is
-leads-some (digit ∷ bytes) is = omega arith
-
 leads-low : (text : List ℕ) → leads text ≡ true → 48 ≤ get_or text 0 0
 leads-low [] is = cc is
 leads-low (digit ∷ []) is = grind arith

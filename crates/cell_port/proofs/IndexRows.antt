@@ -1,5 +1,5 @@
 -- Maps that answer as rows do, as the rows grow.
-use Rattle.std.proofs.Common.{◌≡◌, ℕ, List, ◌∷◌, true, cond, ◌&&◌, ◌==◌, Some, refl, ap, sym, ◌∙◌}
+use Rattle.std.proofs.Common.{◌≡◌, ℕ, List, ◌∷◌, cond, ◌&&◌, ◌==◌, Some, ap, sym, ◌∙◌}
 use Rattle.std.specs.declared.option.Option.{Option}
 use Rattle.std.specs.BTreeMap as tree
 use Rattle.std.specs.Ordering.{nat_cmp}
@@ -15,12 +15,6 @@ use Rattle.cell_port.specs.Index.{indexed_place, indexed_record, HasOneMore, Has
 use Rattle.cell_port.proofs.IndexDigests.{digests-more}
 
 -- ---- a place that is put in or taken out
-
-space-is : (a b : Space) → same_space a b ≡ true → a ≡ b
-space-is Objects Objects h = refl
-space-is Objects Actions h = cc
-space-is Actions Objects h = cc
-space-is Actions Actions h = refl
 
 -- the map of one space says w at the digest of a record
 abbrev pub WithPlace : tree.BTreeMap (List ℕ) Place → tree.BTreeMap (List ℕ) Place → Record → Option Place → Type 0

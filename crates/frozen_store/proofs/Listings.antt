@@ -70,14 +70,6 @@ other_key k ks s m =
     let more : digest_cmp k k ≡ Greater = digest_total.antisymm k k ∙ ap ordering_reverse less in
     absurd (cc)
 
-member_in : (d : Digest) (ds : List Digest) → Member d ds → IsIn d ds
-member_in d [] m = m
-member_in d (x ∷ ds) m = elim m [ inl e ↦ inl e | inr r ↦ inr (member_in d ds r) ]
-
-in_member : (d : Digest) (ds : List Digest) → IsIn d ds → Member d ds
-in_member d [] m = m
-in_member d (x ∷ ds) m = elim m [ inl e ↦ inl e | inr r ↦ inr (in_member d ds r) ]
-
 -- ---- what the loop over the keys makes
 
 -- each pair is a key of the state with its value

@@ -1,16 +1,12 @@
 -- A cell is filled.
-use Rattle.std.proofs.Common.{◌≡◌, ◌≢◌, ℕ, ◌+◌, ◌<◌, List, [], ◌∷◌, ◌++◌, length, set, inl, inr, refl, sym, ap, ◌∙◌, arith}
+use Rattle.std.proofs.Common.{◌≡◌, ◌≢◌, ℕ, ◌+◌, ◌<◌, List, length, inl, inr, refl, sym, ap, ◌∙◌, arith}
 use Rattle.std.proofs.lemmas.Bool.{cases_eq}
 use Rattle.cas_model.specs.declared.place.Space.{Space}
 use Rattle.cas_model.specs.declared.place.Space.TheVariants.{Objects, Actions}
-use Rattle.region_core.specs.Words.{words_of}
 use Rattle.region_core.specs.Heap.{Block, Free, Table, Record, Content, Claimed, extent, fixed, Shape, Keeps, Tries, Laid}
 use Rattle.region_core.specs.Change.{Wrote, Placed}
 use Rattle.region_core.proofs.Claim.{plain_tries, plain_back}
 use Rattle.region_core.proofs.Heap.{SameTries, placed_shape, same_tries, stay, came, wrote_keeps, placed_keeps, slots_same}
-
-refilled : (s : Space) (d : List ℕ) (c : ℕ) → words_of d ++ c ∷ [] ≡ set (words_of d ++ 0 ∷ []) 4 c
-refilled s d c = refl
 
 -- only the cell of a record changes
 pub cell_on : (heap heap' : ℕ → Block) (q : ℕ) (s : Space) (d : List ℕ) (old new : ℕ) → Placed heap heap' q (Record s d new) → heap q ≡ Record s d old → SameTries heap heap'

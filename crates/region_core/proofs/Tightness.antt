@@ -37,9 +37,6 @@ pub one_under : (heap : ℕ → Block) (memory : ℕ → ℕ) (s : Space) (j : �
 one_under heap memory s j above u r p tries here word x =
     elim (under_slot heap memory s j above u p tries here x) [ inl e ↦ omega (arith, e) | inr e ↦ absurd (omega (arith, e.1)) ]
 
-under_on : (heap heap' : ℕ → Block) (s : Space) (π : List ℕ) (p : ℕ) → ((d : List ℕ) (c : ℕ) → heap p ≡ Record s d c → heap' p ≡ Record s d c) → IsUnder heap s π p → IsUnder heap' s π p
-under_on heap heap' s π p on x = record { digest = x.digest; cell = x.cell; here = on x.digest x.cell x.here; begins = x.begins }
-
 -- records stay, with another cell at most
 abbrev pub RecordsStay : (ℕ → Block) → (ℕ → Block) → Type 0
 RecordsStay heap heap' = (p : ℕ) (s : Space) (d : List ℕ) (c : ℕ) → heap p ≡ Record s d c → (n : ℕ) × (heap' p ≡ Record s d n)
