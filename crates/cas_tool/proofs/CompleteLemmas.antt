@@ -33,11 +33,12 @@ use Rattle.cas_tool.specs.declared.answer.Answer.{Answer}
 use Rattle.cas_tool.specs.declared.answer.Answer.TheVariants.{Done, Missing, Usage, ReadFault, WriteFault, FolderFault, Damaged, Full, Poisoned, Dangling, BadScript, Held, TooLarge, NoMemory}
 use Rattle.cas_tool.specs.declared.answer.Large.TheVariants.{Data, References, Script as ScriptBytes}
 use Rattle.cas_tool.specs.declared.closing.Images.{Images}
-use Rattle.cas_tool.specs.declared.command.Command.{Command}
-use Rattle.cas_tool.specs.declared.command.Command.TheVariants.{Make, CatNodeData, LsNodeRefs, PutCacheKey, GetCacheResult}
-use Rattle.cas_tool.specs.declared.command.Options.{Options}
-use Rattle.cas_tool.specs.declared.command.Task.{Task}
-use Rattle.cas_tool.specs.declared.command.Task.TheVariants.{Once, Batch, Workload, Validate, Prune}
+use Rattle.command_line.specs.Commands.{call_of, shown_by}
+use Rattle.command_line.specs.declared.command.Command.{Command}
+use Rattle.command_line.specs.declared.command.Command.TheVariants.{Make, CatNodeData, LsNodeRefs, PutCacheKey, GetCacheResult}
+use Rattle.command_line.specs.declared.command.Options.{Options}
+use Rattle.command_line.specs.declared.command.Task.{Task}
+use Rattle.command_line.specs.declared.command.Task.TheVariants.{Once, Batch, Workload, Validate, Prune}
 use Rattle.cas_tool.specs.declared.front.Front.{Front}
 use Rattle.cas_tool.specs.declared.output.Output.{Output}
 use Rattle.cas_tool.specs.declared.output.Output.TheVariants.{Denied}
@@ -46,7 +47,7 @@ use Rattle.cas_tool.specs.declared.work.Work.{Work}
 use Rattle.cas_tool.specs.Complete.{AnswersTask, IsQuiet, IsCompleteRun, IsReadable, MayAnswer}
 use Rattle.cas_tool.specs.Front.{closed_of}
 use Rattle.cas_tool.specs.Opening.{OpenCause}
-use Rattle.cas_tool.specs.Output.{IsOutputOfOne, Reports, call_of, refusal_of, shown_by}
+use Rattle.cas_tool.specs.Output.{IsOutputOfOne, Reports, refusal_of}
 use Rattle.cas_tool.specs.Pruning.{EnterCause, PruneCause}
 use Rattle.cas_tool.specs.Run.{Because, IsPut, Prepares, PutStops, Refuses, SavingStops, UpkeepRefuses, World, WordsRefused, save_answer}
 use Rattle.cas_tool.specs.Work.{IsWork, Source, TaskStops}

@@ -20,7 +20,7 @@ use Rattle.image_file.specs.Image.{image_bytes}
 use Rattle.region_core.specs.Builds.{empty_region}
 use Rattle.cas_tool.specs.declared.answer.Answer.{Answer}
 use Rattle.cas_tool.specs.declared.answer.Answer.TheVariants.{Done, Missing, Usage, ReadFault, WriteFault, FolderFault, Damaged, Full, Poisoned, Dangling, BadScript, Held, TooLarge, NoMemory}
-use Rattle.cas_tool.specs.declared.command.Options.{Options}
+use Rattle.command_line.specs.declared.command.Options.{Options}
 use Rattle.cas_tool.specs.declared.front.Front.{Front}
 use Rattle.cas_tool.specs.declared.front.Run.{Run}
 use Rattle.cas_tool.specs.declared.output.Output.{Output}
@@ -32,7 +32,7 @@ use Rattle.cas_tool.specs.Front.{NotReached, closed_of, front_run, run_of}
 use Rattle.cas_tool.specs.Headline.{ComesAfterSave, EndsWith, HasHeadline, RunsFrom, RunsTo, RunsToTold}
 use Rattle.cas_tool.specs.Rotation.{IsNextDue, full_seen}
 use Rattle.cas_tool.specs.Run.{Because, IsPut, Outside, Prepares, Refuses, RunPrepares, World, rotation_of}
-use Rattle.cas_tool.specs.Words.{first_size}
+use Rattle.command_line.specs.Words.{first_size}
 use Rattle.cas_tool.proofs.RunLemmas.{IsOfReply, of-refused}
 use Rattle.cas_tool.proofs.ShownLemmas.{HasRun, shows-run}
 

@@ -1,12 +1,9 @@
 pub mod StreamLemmas
-pub mod WordLemmas
 pub mod OutputLemmas
 pub mod HistoryLemmas
 pub mod ReplyLemmas
 pub mod RotationLemmas
 pub mod ClosingLemmas
-pub mod NumberLemmas
-pub mod SplitLemmas
 pub mod RunLemmas
 pub mod FolderLemmas
 pub mod PruningLemmas

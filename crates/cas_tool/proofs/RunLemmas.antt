@@ -24,14 +24,15 @@ use Rattle.sessions.specs.declared.script.Line.TheVariants.{Store, Load, Put, Ge
 use Rattle.sessions.specs.declared.script.Script.{Script}
 use Rattle.cas_tool.specs.declared.answer.Answer.{Answer}
 use Rattle.cas_tool.specs.declared.answer.Answer.TheVariants.{Done, Missing, Usage, ReadFault, WriteFault, FolderFault, Damaged, Full, Poisoned, Dangling, BadScript, Held, TooLarge, NoMemory}
-use Rattle.cas_tool.specs.declared.command.Options.{Options}
+use Rattle.command_line.specs.Commands.{call_of}
+use Rattle.command_line.specs.declared.command.Options.{Options}
 use Rattle.cas_tool.specs.declared.closing.Images.{Images}
-use Rattle.cas_tool.specs.declared.command.Request.{Request}
-use Rattle.cas_tool.specs.declared.command.Task.{Task}
-use Rattle.cas_tool.specs.declared.command.Task.TheVariants.{Once, Batch, Workload, Validate, Prune}
-use Rattle.cas_tool.specs.declared.command.Verb.{Verb}
-use Rattle.cas_tool.specs.declared.command.Verb.TheVariants as verb
-use Rattle.cas_tool.specs.declared.command.Command.TheVariants as command
+use Rattle.command_line.specs.declared.command.Request.{Request}
+use Rattle.command_line.specs.declared.command.Task.{Task}
+use Rattle.command_line.specs.declared.command.Task.TheVariants.{Once, Batch, Workload, Validate, Prune}
+use Rattle.command_line.specs.declared.command.Verb.{Verb}
+use Rattle.command_line.specs.declared.command.Verb.TheVariants as verb
+use Rattle.command_line.specs.declared.command.Command.TheVariants as command
 use Rattle.cas_tool.specs.declared.front.Front.{Front}
 use Rattle.cas_tool.specs.declared.output.Output.{Output}
 use Rattle.cas_tool.specs.declared.output.Output.TheVariants.{Text, Denied}
@@ -41,11 +42,11 @@ use Rattle.cas_tool.specs.declared.work.Work.{Work}
 use Rattle.cas_tool.specs.Front.{NotReached, closed_of}
 use Rattle.cas_tool.specs.Made.{IsOneCall, IsOneCallFor}
 use Rattle.cas_tool.specs.Opening.{OpenCause, OpeningStops}
-use Rattle.cas_tool.specs.Output.{Reports, call_of, refusal_of}
+use Rattle.cas_tool.specs.Output.{Reports, refusal_of}
 use Rattle.cas_tool.specs.Pruning.{EnterCause, PruneCause}
 use Rattle.cas_tool.specs.Rotation.{IsSizeFor}
 use Rattle.cas_tool.specs.Run.{Ask, Because, Ends, Outside, Prepares, Refuses, RunPrepares, RunRefuses, IsPut, PutStops, SavingStops, UpkeepPrepares, UpkeepRefuses, WordsRefused, World, save_answer}
-use Rattle.cas_tool.specs.Words.{BeginWith, IsGiven, IsNamedBy, dir_of, is_word, task_of, verb_of}
+use Rattle.command_line.specs.Words.{BeginWith, IsGiven, IsNamedBy, dir_of, is_word, task_of, verb_of}
 use Rattle.cas_tool.specs.Work.{IsTaskWithin, IsWork, Source, TaskStops}
 
 -- ---- answers of a reply

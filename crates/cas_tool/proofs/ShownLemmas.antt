@@ -18,7 +18,7 @@ use Rattle.cas_tool.specs.declared.output.Output.TheVariants.{Denied}
 use Rattle.cas_tool.specs.Front.{Answered, NotReached, Ran}
 use Rattle.cas_tool.specs.Opening.{HasOpened}
 use Rattle.cas_tool.specs.Run.{Because, Outside, Prepares, Refuses, World}
-use Rattle.cas_tool.specs.Words.{first_size}
+use Rattle.command_line.specs.Words.{first_size}
 
 abbrev pub answered-ran : (opened : FrozenSeen) (up : Option FrozenSeen) (script : Script) (replies : Replies) (front : Front) → Answered opened up script replies front → Ran opened up script front
 answered-ran opened up script replies front h = record { events = h.events; is = h.is; size = h.size; counter = h.counter; runs = h.answers.runs }

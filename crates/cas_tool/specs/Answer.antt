@@ -16,7 +16,7 @@ use Rattle.sessions.specs.declared.error.LineKind.TheVariants.{BadVerb, BadArgum
 use Rattle.cas_tool.specs.declared.answer.Answer.{Answer}
 use Rattle.cas_tool.specs.declared.answer.Answer.TheVariants.{Done, Missing, Usage, ReadFault, WriteFault, FolderFault, Damaged, Full, Poisoned, Dangling, BadScript, Held, TooLarge, NoMemory}
 use Rattle.cas_tool.specs.declared.answer.Large.TheVariants.{Data, References, Script}
-use Rattle.cas_tool.specs.declared.answer.UsageKind.TheVariants.{Words, Operands, BadOperand}
+use Rattle.command_line.specs.declared.refusal.UsageKind.TheVariants.{Words, Operands, BadOperand}
 
 abbrev pub status_of : Answer → ℕ
 status_of Done = 0

@@ -8,13 +8,13 @@ use Rattle.generations.specs.FolderState.{Readable}
 use Rattle.cas_tool.specs.declared.answer.Answer.{Answer}
 use Rattle.cas_tool.specs.declared.answer.Answer.TheVariants.{Done, Missing, Full, Poisoned, Dangling, BadScript, TooLarge, NoMemory}
 use Rattle.cas_tool.specs.declared.answer.Large.TheVariants.{Data, Script}
-use Rattle.cas_tool.specs.declared.command.Command.{Command}
-use Rattle.cas_tool.specs.declared.command.Command.TheVariants.{Make, CatNodeData, LsNodeRefs, PutCacheKey, GetCacheResult}
-use Rattle.cas_tool.specs.declared.command.Request.{Request}
-use Rattle.cas_tool.specs.declared.command.Task.{Task}
-use Rattle.cas_tool.specs.declared.command.Task.TheVariants.{Once, Batch}
+use Rattle.command_line.specs.declared.command.Command.{Command}
+use Rattle.command_line.specs.declared.command.Command.TheVariants.{Make, CatNodeData, LsNodeRefs, PutCacheKey, GetCacheResult}
+use Rattle.command_line.specs.declared.command.Request.{Request}
+use Rattle.command_line.specs.declared.command.Task.{Task}
+use Rattle.command_line.specs.declared.command.Task.TheVariants.{Once, Batch}
 use Rattle.cas_tool.specs.Run.{World, WordsRefused}
-use Rattle.cas_tool.specs.Words.{Reads}
+use Rattle.command_line.specs.Words.{Reads}
 
 -- no count of faults rose, nor that of the times the lock was found held
 pub record IsQuiet (before after : World) : Type 0 where

@@ -1,5 +1,3 @@
-pub mod Words
-pub mod Splitting
 pub mod Answer
 pub mod Reading
 pub mod Work

@@ -1,8 +1,6 @@
 -- What is written of the replies to a script.
 use Rattle.std.specs.Prelude.{◌≡◌, ℕ, ◌+◌, ◌*◌, List, [], ◌∷◌, ◌++◌, cond, codes, Some, None}
 use Rattle.std.specs.declared.option.Option.{Option}
-use Rattle.cas_model.specs.declared.call.Call.{Call}
-use Rattle.cas_model.specs.declared.call.Call.TheVariants as call
 use Rattle.cas_model.specs.declared.call.Reply.{Reply}
 use Rattle.cas_model.specs.declared.call.Reply.TheVariants.{Stored, Found, Missing, Kept, Hit, Miss, Dangling, Full}
 use Rattle.cas_model.specs.declared.digest.Digest.{Digest}
@@ -18,32 +16,14 @@ use Rattle.sessions.specs.Rendering.{batch_text}
 use Rattle.sessions.specs.Summary.{full_in, summary_text}
 use Rattle.cas_tool.specs.declared.answer.Answer.{Answer}
 use Rattle.cas_tool.specs.declared.answer.Answer.TheVariants as answer
-use Rattle.cas_tool.specs.declared.command.Command.{Command}
-use Rattle.cas_tool.specs.declared.command.Command.TheVariants.{Make, CatNodeData, LsNodeRefs, PutCacheKey, GetCacheResult}
-use Rattle.cas_tool.specs.declared.command.Shows.{Shows}
-use Rattle.cas_tool.specs.declared.command.Shows.TheVariants.{Data, References}
+use Rattle.command_line.specs.declared.command.Shows.{Shows}
+use Rattle.command_line.specs.declared.command.Shows.TheVariants.{Data, References}
 use Rattle.cas_tool.specs.declared.output.Output.{Output}
 use Rattle.cas_tool.specs.declared.output.Output.TheVariants.{Text, Denied}
 use Rattle.cas_tool.specs.declared.work.Report.{Report}
 use Rattle.cas_tool.specs.declared.work.Report.TheVariants as report
 
--- ---- a command's one call
-
--- the one call of a command, with the data that the source gave
-abbrev pub call_of : Command → List ℕ → Call
-call_of (Make refs) bytes = call.Store (record { refs = refs; «data» = bytes })
-call_of (CatNodeData digest) bytes = call.Load digest
-call_of (LsNodeRefs digest) bytes = call.Load digest
-call_of (PutCacheKey key value) bytes = call.Put key value
-call_of (GetCacheResult key) bytes = call.Get key
-
--- what a command shows of an object that it loads
-abbrev pub shown_by : Command → Shows
-shown_by (LsNodeRefs digest) = References
-shown_by (CatNodeData digest) = Data
-shown_by (Make refs) = Data
-shown_by (PutCacheKey key value) = Data
-shown_by (GetCacheResult key) = Data
+-- ---- what a reply gives
 
 -- an id, and a line end
 abbrev pub id_line : Digest → List ℕ

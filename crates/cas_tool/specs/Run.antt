@@ -17,14 +17,11 @@ use Rattle.generations.specs.Saved.{Saves}
 use Rattle.cas_tool.specs.declared.answer.Answer.{Answer}
 use Rattle.cas_tool.specs.declared.answer.Answer.TheVariants.{Done, Usage, WriteFault, FolderFault, TooLarge, NoMemory}
 use Rattle.cas_tool.specs.declared.answer.Large.TheVariants.{References}
-use Rattle.cas_tool.specs.declared.answer.UsageKind.{UsageKind}
-use Rattle.cas_tool.specs.declared.answer.UsageKind.TheVariants.{Words, Operands, BadOperand}
 use Rattle.cas_tool.specs.declared.closing.Images.{Images}
-use Rattle.cas_tool.specs.declared.command.Options.{Options}
-use Rattle.cas_tool.specs.declared.command.Request.{Request}
-use Rattle.cas_tool.specs.declared.command.Task.{Task}
-use Rattle.cas_tool.specs.declared.command.Task.TheVariants.{Once, Batch, Workload, Validate, Prune}
-use Rattle.cas_tool.specs.declared.command.Verb.{Verb}
+use Rattle.command_line.specs.declared.command.Options.{Options}
+use Rattle.command_line.specs.declared.command.Request.{Request}
+use Rattle.command_line.specs.declared.command.Task.{Task}
+use Rattle.command_line.specs.declared.command.Task.TheVariants.{Once, Batch, Workload, Validate, Prune}
 use Rattle.cas_tool.specs.declared.front.Front.{Front}
 use Rattle.cas_tool.specs.declared.output.Output.{Output}
 use Rattle.cas_tool.specs.declared.output.Output.TheVariants.{Text, Denied}
@@ -37,7 +34,8 @@ use Rattle.cas_tool.specs.Opening.{HasOpened, OpeningStops}
 use Rattle.cas_tool.specs.Output.{IsText}
 use Rattle.cas_tool.specs.Pruning.{PrunePrepares, PruneRefuses}
 use Rattle.cas_tool.specs.Validation.{valid_lines}
-use Rattle.cas_tool.specs.Words.{IsFirstBad, Names, NameNone, Reads, HaveWrongCount, HaveBadOperand, HaveTooMany, dir_of, first_size}
+use Rattle.command_line.specs.Refusals.{IsBadUsage, NameSome}
+use Rattle.command_line.specs.Words.{HaveTooMany, Reads, dir_of, first_size}
 use Rattle.cas_tool.specs.Work.{Source, source_with, IsWork, TaskStops}
 use Rattle.cas_tool.specs.Writing.{AppendsPart}
 
@@ -66,17 +64,11 @@ world_with left read_faults folder held write_faults =
 
 -- ---- what the words ask for
 
--- the words are no command, for this reason
-abbrev pub IsBadUsage : List (String Global) → UsageKind → Type 0
-IsBadUsage words Words = NameNone words
-IsBadUsage words (Operands n) = HaveWrongCount words n
-IsBadUsage words (BadOperand k error) = HaveBadOperand words k error
-
 -- why the words are no command
 abbrev pub WordsRefused : List (String Global) → Answer → Type 0
 WordsRefused words (Usage kind) = IsBadUsage words kind
 WordsRefused words (TooLarge References number) = HaveTooMany words number
-WordsRefused words NoMemory = (verb : Verb) × (operands : List (String Global)) × (options : Options) × Names words verb operands options
+WordsRefused words NoMemory = NameSome words
 WordsRefused words answer = ⊥
 
 -- the words ask for this in this folder
@@ -291,9 +283,3 @@ Ends (Err given) old new answer = (answer ≡ given) × (new ≡ old)
 
 abbrev pub sink_with : Option (List ℕ) → ℕ → Sink
 sink_with held faults = record { held = held; faults = faults }
-
--- why the operands of this command did not read
-abbrev pub OperandsRefused : Verb → List (String Global) → Answer → Type 0
-OperandsRefused verb operands (Usage (BadOperand k error)) = IsFirstBad verb operands k error
-OperandsRefused verb operands NoMemory = Unit {0}
-OperandsRefused verb operands answer = ⊥

@@ -12,15 +12,15 @@ use Rattle.sessions.specs.Workload.{workload_script}
 use Rattle.cas_tool.specs.declared.answer.Answer.{Answer}
 use Rattle.cas_tool.specs.declared.answer.Answer.TheVariants.{ReadFault, BadScript, TooLarge, NoMemory}
 use Rattle.cas_tool.specs.declared.answer.Large.TheVariants.{Data, Script}
-use Rattle.cas_tool.specs.declared.command.Command.{Command}
-use Rattle.cas_tool.specs.declared.command.Command.TheVariants.{Make, CatNodeData, LsNodeRefs, PutCacheKey, GetCacheResult}
-use Rattle.cas_tool.specs.declared.command.Task.{Task}
-use Rattle.cas_tool.specs.declared.command.Task.TheVariants.{Once, Batch, Workload, Validate, Prune}
+use Rattle.command_line.specs.Commands.{call_of, shown_by}
+use Rattle.command_line.specs.declared.command.Command.{Command}
+use Rattle.command_line.specs.declared.command.Command.TheVariants.{Make, CatNodeData, LsNodeRefs, PutCacheKey, GetCacheResult}
+use Rattle.command_line.specs.declared.command.Task.{Task}
+use Rattle.command_line.specs.declared.command.Task.TheVariants.{Once, Batch, Workload, Validate, Prune}
 use Rattle.cas_tool.specs.declared.input.Stop.{Stop}
 use Rattle.cas_tool.specs.declared.input.Stop.TheVariants.{Fault, Large, Memory}
 use Rattle.cas_tool.specs.declared.work.Report.TheVariants.{Reply, Lines, Summary}
 use Rattle.cas_tool.specs.declared.work.Work.{Work}
-use Rattle.cas_tool.specs.Output.{call_of, shown_by}
 use Rattle.cas_tool.specs.Reading.{HasReadAll, HasTooMany}
 
 -- the source at one moment: what is left, where it tells it, and its count of faults

@@ -7,21 +7,11 @@ ghost use Rattle.cas_tool.specs.declared.answer.Answer.TheVariants.{BadScript, P
 use crate::front::Front;
 use crate::output::push_id;
 use cas_model::{Digest, Full, Id, IdError};
+use command_line::UsageKind;
 use image_file::ImageError;
 use region_check::{Flaw, FlawKind};
 use sessions::LineKind;
 use std::alloc::{AllocError, Global};
-
-/// Why the words are no command. The first of these that applies is answered.
-#[derive(Clone, Copy, Debug, PartialEq, Eq)]
-pub enum UsageKind {
-    /// They do not read as one.
-    Words,
-    /// The command does not take so many operands.
-    Operands(u64),
-    /// The operand at this index, counted from 0, is the first that does not read.
-    BadOperand(u64, IdError),
-}
 
 /// What passes its limit.
 #[derive(Clone, Copy, Debug, PartialEq, Eq)]

@@ -5,7 +5,6 @@ mod answer;
 #[cfg(test)]
 mod batch_tests;
 mod closing;
-mod command;
 mod front;
 #[cfg(test)]
 mod generation_tests;
@@ -26,11 +25,11 @@ mod testing;
 #[cfg(test)]
 mod tests;
 mod validate;
-mod words;
 mod work;
 
-use answer::{Answer, UsageKind, answer_text};
+use answer::{Answer, answer_text};
 use cas_outside::{NoGate, OsFolder, ReadSource, WriteSink};
+use command_line::UsageKind;
 use run::cas_run;
 use std::env;
 use std::io::{self, ErrorKind, Write};

@@ -1,18 +1,18 @@
 // The top call.
-ghost use Rattle.std.specs.Prelude.{◌≡◌, ◌+◌, IfOk, IfErr, OnOk, true};
+ghost use Rattle.std.specs.Prelude.{◌≡◌, ◌+◌, IfOk, IfErr, MatchResult, OnOk, true};
 ghost use Rattle.cas_outside.specs.Folder.{MayEnter};
 ghost use Rattle.sessions.specs.Limits.{FitsScript};
+ghost use Rattle.command_line.specs.Words.{Reads};
 ghost use Rattle.cas_tool.specs.Answer.{status_of};
 ghost use Rattle.cas_tool.specs.Complete.{IsCompleteRun};
 ghost use Rattle.cas_tool.specs.Headline.{HasHeadline};
 ghost use Rattle.cas_tool.specs.Made.{IsOneCall};
 ghost use Rattle.cas_tool.specs.Room.{IsRoomy};
 ghost use Rattle.cas_tool.specs.Rotation.{IsSizeFor};
-ghost use Rattle.cas_tool.specs.Run.{Because, Ends, HasNext, IsPut, IsSaved, Prepares, PutStops, Refuses, RunPrepares, RunRefuses, SavingStops, ValidatePrepares, ValidateRefuses, outside_with, save_answer, sink_with, world_with};
+ghost use Rattle.cas_tool.specs.Run.{Because, Ends, HasNext, IsPut, IsSaved, Prepares, PutStops, Refuses, RunPrepares, RunRefuses, SavingStops, ValidatePrepares, ValidateRefuses, WordsRefused, outside_with, save_answer, sink_with, world_with};
 
-use crate::answer::{Answer, Outcome};
+use crate::answer::{Answer, Large, Outcome};
 use crate::closing::Images;
-use crate::command::{Options, Request, Task};
 use crate::front::Front;
 use crate::opening::open;
 use crate::output::{Output, write_all};
@@ -20,9 +20,9 @@ use crate::pruning::prune_text;
 use crate::rotation::Rotation;
 use crate::running::run_work;
 use crate::validate::valid_text;
-use crate::words::read_words;
 use crate::work::{Work, work_of};
 use cas_outside::{Folder, Gate, Sink, Source};
+use command_line::{Options, Request, Task, WordsError, read_words};
 use generations::{Opened, SaveError, rotate, save};
 use std::alloc::{AllocError, AllocGlobal, Global};
 
@@ -82,7 +82,7 @@ fn prepare<F: Folder, S: Source, G: Gate>(
     ensures ok { IfOk result.1 (λ output. Prepares words.now (outside_with (S.left source.old) (S.faults source.old) (F.view folder.old)) (outside_with (S.left source.new) (S.faults source.new) (F.view folder.new)) result.0 output) }
     ensures err { IfErr result.1 (λ answer. Refuses words.now (outside_with (S.left source.old) (S.faults source.old) (F.view folder.old)) (outside_with (S.left source.new) (S.faults source.new) (F.view folder.new)) result.0 answer) }
 {
-    let request = match read_words(alloc, words) {
+    let request = match read_request(alloc, words) {
         Ok(request) => request,
         Err(answer) => return (Front::none(), Err(answer)),
     };
@@ -95,6 +95,21 @@ fn prepare<F: Folder, S: Source, G: Gate>(
             Ok(work) => run_in_folder(alloc, folder, dir, options, work, gate),
             Err(answer) => (Front::none(), Err(answer)),
         },
+    }
+}
+
+// What the words ask for.
+fn read_request(alloc: Global, words: &[String]) -> Result<Request, Answer>
+    ensures { MatchResult result (λ request. Reads words.now request) (λ answer. WordsRefused words.now answer) }
+{
+    match read_words(alloc, words) {
+        Ok(request) => Ok(request),
+        Err(WordsError::Usage(kind)) => Err(Answer::Usage(kind)),
+        Err(WordsError::TooManyReferences(number)) => Err(Answer::TooLarge {
+            what: Large::References,
+            number,
+        }),
+        Err(WordsError::Memory) => Err(Answer::NoMemory),
     }
 }
 

@@ -1,11 +1,10 @@
 // Runs over sources and sinks in memory: the worked answers, with ids that another implementation of SHA-256 computed.
-use crate::answer::{Answer, Large, UsageKind, answer_text};
-use crate::command::{Command, Options, Request, Task};
+use crate::answer::{Answer, Large, answer_text};
 use crate::run::cas_run;
 use crate::testing::{EMPTY, HELLO, Ran, ZERO, fresh_folder};
-use crate::words::read_words;
 use cas_model::{Digest, Full, Id, IdError};
 use cas_outside::{MemSink, MemSource, NoGate};
+use command_line::UsageKind;
 use image_file::ImageError;
 use region_check::{Flaw, FlawKind};
 use sessions::LineKind;
@@ -97,184 +96,22 @@ fn faults_have_their_answers(rt: HostRuntime) -> Result<(), Fail> {
 
 #[test]
 fn other_words_are_refused(rt: HostRuntime) -> Result<(), Fail> {
-    let cases: [(&[&str], UsageKind); 36] = [
-        // An option without its value, and values that are no numbers within bounds.
-        (&["--cas", "c", "--batch", "--workers"], UsageKind::Words),
-        (
-            &["--cas", "c", "--batch", "--workers", "0"],
-            UsageKind::Words,
-        ),
+    let cases: [(&[&str], UsageKind); 4] = [
+        (&[], UsageKind::Words),
         (
             &["--cas", "c", "--batch", "--workers", "65"],
             UsageKind::Words,
         ),
-        (
-            &["--cas", "c", "--batch", "--workers", "+4"],
-            UsageKind::Words,
-        ),
-        (
-            &["--cas", "c", "--batch", "--workers", "007"],
-            UsageKind::Words,
-        ),
-        (
-            &["--cas", "c", "--batch", "--size", "4095"],
-            UsageKind::Words,
-        ),
-        (
-            &["--cas", "c", "--batch", "--size", "67108865"],
-            UsageKind::Words,
-        ),
-        (
-            &["--cas", "c", "--batch", "--limit", "1099511627777"],
-            UsageKind::Words,
-        ),
-        (
-            &["--cas", "c", "--batch", "--limit", "01"],
-            UsageKind::Words,
-        ),
-        (
-            &["--cas", "c", "--batch", "--limit", "-1"],
-            UsageKind::Words,
-        ),
-        (
-            &["--cas", "c", "--batch", "--limit", "18446744073709551616"],
-            UsageKind::Words,
-        ),
-        // An option that is given twice, two commands, and an option that is none.
-        (
-            &["--cas", "c", "--batch", "--workers", "4", "--workers", "4"],
-            UsageKind::Words,
-        ),
-        (
-            &["--cas", "c", "--batch", "--limit", "0", "--limit", "0"],
-            UsageKind::Words,
-        ),
-        (&["--cas", "c", "--make-blob", "--batch"], UsageKind::Words),
-        (
-            &["--cas", "c", "--batch", "--limits", "0"],
-            UsageKind::Words,
-        ),
-        (&["--cas", "c", "--workload"], UsageKind::Words),
-        (&["--cas", "c", "--workload", "0"], UsageKind::Words),
-        (&["--cas", "c", "--workload", "10001"], UsageKind::Words),
-        (
-            &["--cas", "c", "--workload", "1", ZERO],
-            UsageKind::Operands(1),
-        ),
-        (
-            &["--cas", "c", "--validate", "--size", "4096", ZERO],
-            UsageKind::Operands(1),
-        ),
-        (&["--cas", "c", "--prune", ZERO], UsageKind::Operands(1)),
-        (&["--cas", "c", "--prune", "--all"], UsageKind::Words),
-        (&["--cas", "c", "--batch", "-"], UsageKind::Words),
-        (&["--cas", "c", "--batch", ZERO], UsageKind::Operands(1)),
-        (&[], UsageKind::Words),
-        (&["--cas", "c"], UsageKind::Words),
-        (&["--make-blob", "--cas", "c"], UsageKind::Words),
-        (&["--cas", "c", "--make-blob "], UsageKind::Words),
-        (&["--cas", "c", "--make-blob", "--data"], UsageKind::Words),
-        (&["--cas", "c", "--make-node", "-"], UsageKind::Words),
-        (&["--cas", "c", "--make-blob", ZERO], UsageKind::Operands(1)),
         (&["--cas", "c", "--cat-node-data"], UsageKind::Operands(0)),
-        (
-            &["--cas", "c", "--put-cache-key", "action:k"],
-            UsageKind::Operands(1),
-        ),
-        (
-            &["--cas", "c", "--make-node", ZERO, "llvmcas:", "x"],
-            UsageKind::BadOperand(1, IdError::BadPrefix),
-        ),
         (
             &["--cas", "c", "--cat-node-data", "llvmcas://12"],
             UsageKind::BadOperand(0, IdError::BadLength),
-        ),
-        (
-            &["--cas", "c", "--put-cache-key", ZERO, "action:k"],
-            UsageKind::BadOperand(1, IdError::BadPrefix),
         ),
     ];
     for (words, kind) in cases {
         let refused = run_words(&rt, words, b"hello".to_vec(rt.alloc())?, &[], &[])?;
         assert_eq!(rt; (refused.status, refused.answer), (2, Answer::Usage(kind)));
         assert_eq!(rt; refused.sink.written().len(), 0);
-    }
-    Ok(())
-}
-
-// What these words ask for, if they ask for anything.
-fn read(rt: &HostRuntime, words: &[&str]) -> Result<Option<Request>, Fail> {
-    let mut owned = Vec::new(rt.alloc());
-    for word in words {
-        owned.push(word.to_string(rt.alloc())?)?;
-    }
-    Ok(read_words(rt.alloc(), &owned).ok())
-}
-
-#[test]
-fn options_stand_anywhere_after_the_command(rt: HostRuntime) -> Result<(), Fail> {
-    let given = Options {
-        workers: 64,
-        size: Some(4_096),
-        limit: None,
-    };
-    let limited = |limit| Options {
-        workers: 1,
-        size: None,
-        limit,
-    };
-    let cases: [(&[&str], Options); 6] = [
-        (
-            &[
-                "--cas",
-                "c",
-                "--make-node",
-                "--workers",
-                "64",
-                ZERO,
-                "--size",
-                "4096",
-                ZERO,
-            ],
-            given,
-        ),
-        (
-            &[
-                "--cas",
-                "c",
-                "--workload",
-                "10000",
-                "--size",
-                "4096",
-                "--workers",
-                "64",
-            ],
-            given,
-        ),
-        (&["--cas", "c", "--make-blob"], limited(None)),
-        (&["--cas", "c", "--validate"], limited(None)),
-        (
-            &["--cas", "c", "--make-node", ZERO, "--limit", "0"],
-            limited(Some(0)),
-        ),
-        (
-            &["--cas", "c", "--batch", "--limit", "1099511627776"],
-            limited(Some(1_099_511_627_776)),
-        ),
-    ];
-    for (words, options) in cases {
-        match read(&rt, words)? {
-            Some(request) => assert_eq!(rt; request.options, options),
-            None => panic!(rt; "no words at {words:?}"),
-        }
-    }
-    let words = ["--cas", "c", "--make-node", ZERO, "--workers", "2", ZERO];
-    let task = read(&rt, &words)?.map(|request| request.task);
-    match task {
-        Some(Task::Once(Command::Make(refs))) => {
-            assert_eq!(rt; refs.list(), [ABSENT, ABSENT].as_slice());
-        }
-        _ => panic!(rt; "another task"),
     }
     Ok(())
 }

@@ -1,13 +1,13 @@
 // The work that a command asks for: a script, and what is written of its replies.
 ghost use Rattle.std.specs.Prelude.{◌≡◌, IfOk, IfErr, MatchResult};
 ghost use Rattle.sessions.specs.Limits.{FitsScript};
-ghost use Rattle.cas_tool.specs.Output.{call_of};
+ghost use Rattle.command_line.specs.Commands.{call_of};
 ghost use Rattle.cas_tool.specs.Work.{HasInput, InputStops, IsCommandWithin, IsTaskWithin, IsWork, TaskStops, ScriptStops, HasScript, script_stop_answer, stop_answer, source_with, IsCallWork, CommandStops};
 
 use crate::answer::{Answer, Large};
-use crate::command::{Command, Shows, Task};
 use crate::input::{Stop, read_all};
 use cas_outside::Source;
+use command_line::{Command, Shows, Task};
 use sessions::{Script, ScriptError, workload};
 use std::alloc::{AllocError, Global};
 

@@ -1,6 +1,6 @@
 -- what the words asked for, and how far it came
 use Rattle.std.proofs.Common.{refl}
-use Rattle.cas_tool.specs.declared.command.Task.TheVariants.{Validate, Prune}
+use Rattle.command_line.specs.declared.command.Task.TheVariants.{Validate, Prune}
 use Rattle.cas_tool.specs.Run.{Ask, outside_with}
 use Rattle.cas_tool.proofs.RunLemmas.{dir-named, has-dir, one-call, size-within, task-prepares, task-refuses, upkeep-prepares, upkeep-refuses, work-stops}
 use Rattle.cas_tool.proofs.run.prepare.Goals as goal

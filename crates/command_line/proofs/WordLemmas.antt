@@ -9,17 +9,17 @@ use Rattle.std.specs.String.{string_bytes}
 use Rattle.std.specs.declared.alloc.Global.{Global}
 use Rattle.cas_model.specs.declared.digest.Digest.{Digest}
 use Rattle.cas_model.specs.declared.id.IdError.{IdError}
-use Rattle.cas_tool.specs.declared.answer.Answer.{Answer}
-use Rattle.cas_tool.specs.declared.answer.Answer.TheVariants as answer
-use Rattle.cas_tool.specs.declared.answer.UsageKind.TheVariants as usage
-use Rattle.cas_tool.specs.declared.command.Options.{Options}
-use Rattle.cas_tool.specs.declared.command.Request.{Request}
-use Rattle.cas_tool.specs.declared.command.Task.TheVariants as task
-use Rattle.cas_tool.specs.declared.command.Verb.{Verb}
-use Rattle.cas_tool.specs.declared.command.Verb.TheVariants.{MakeBlob, MakeNode, CatNodeData, LsNodeRefs, PutCacheKey, GetCacheResult, Batch, Workload, Validate, Prune}
-use Rattle.cas_tool.specs.Run.{OperandsRefused, WordsRefused}
-use Rattle.cas_tool.specs.Splitting.{IsNamed}
-use Rattle.cas_tool.specs.Words.{AreOperands, BeginWith, HaveOptions, IsBadOperand, IsCommand, IsFirstBad, IsNamedBy, IsOperand, NameNone, Names, Reads, is_key, is_word, operands_of, takes, task_of, verb_of}
+use Rattle.command_line.specs.declared.refusal.WordsError.{WordsError}
+use Rattle.command_line.specs.declared.refusal.WordsError.TheVariants as refusal
+use Rattle.command_line.specs.declared.refusal.UsageKind.TheVariants as usage
+use Rattle.command_line.specs.declared.command.Options.{Options}
+use Rattle.command_line.specs.declared.command.Request.{Request}
+use Rattle.command_line.specs.declared.command.Task.TheVariants as task
+use Rattle.command_line.specs.declared.command.Verb.{Verb}
+use Rattle.command_line.specs.declared.command.Verb.TheVariants.{MakeBlob, MakeNode, CatNodeData, LsNodeRefs, PutCacheKey, GetCacheResult, Batch, Workload, Validate, Prune}
+use Rattle.command_line.specs.Refusals.{AreRefused, OperandsRefused}
+use Rattle.command_line.specs.Splitting.{IsNamed}
+use Rattle.command_line.specs.Words.{AreOperands, BeginWith, HaveOptions, IsBadOperand, IsCommand, IsFirstBad, IsNamedBy, IsOperand, NameNone, Names, Reads, is_key, is_word, operands_of, takes, task_of, verb_of}
 
 -- ---- slices of words
 
@@ -228,9 +228,9 @@ operands-done verb digests operands left none so = operands-all verb digests ope
 
 -- ---- words whose operands are refused
 
-pub operands-refused : (words rest : List (String Global)) (verb : Verb) (count : ℕ) (options : Options) (refusal : Answer) → IsNamed words verb rest count options → takes verb count ≡ true
-    → OperandsRefused verb (operands_of rest) refusal → WordsRefused words refusal
-operands-refused words rest verb count options (answer.Usage (usage.BadOperand k error)) named takes_it why =
+pub operands-refused : (words rest : List (String Global)) (verb : Verb) (count : ℕ) (options : Options) (error : WordsError) → IsNamed words verb rest count options → takes verb count ≡ true
+    → OperandsRefused verb (operands_of rest) error → AreRefused words error
+operands-refused words rest verb count options (refusal.Usage (usage.BadOperand k error)) named takes_it why =
     record {
       verb = verb;
       operands = operands_of rest;
@@ -239,18 +239,7 @@ operands-refused words rest verb count options (answer.Usage (usage.BadOperand k
       count = ap (takes verb) (sym named.many) ∙ takes_it;
       first = why;
     }
-operands-refused words rest verb count options answer.NoMemory named takes_it why = (verb, operands_of rest, options, names-of words verb rest count options named)
-operands-refused words rest verb count options answer.Done named takes_it why = absurd why
-operands-refused words rest verb count options (answer.Missing digest) named takes_it why = absurd why
-operands-refused words rest verb count options (answer.Usage usage.Words) named takes_it why = absurd why
-operands-refused words rest verb count options (answer.Usage (usage.Operands n)) named takes_it why = absurd why
-operands-refused words rest verb count options answer.ReadFault named takes_it why = absurd why
-operands-refused words rest verb count options answer.WriteFault named takes_it why = absurd why
-operands-refused words rest verb count options (answer.Poisoned wanted kept) named takes_it why = absurd why
-operands-refused words rest verb count options (answer.Dangling index digest) named takes_it why = absurd why
-operands-refused words rest verb count options (answer.BadScript line kind) named takes_it why = absurd why
-operands-refused words rest verb count options (answer.TooLarge what number) named takes_it why = absurd why
-operands-refused words rest verb count options answer.FolderFault named takes_it why = absurd why
-operands-refused words rest verb count options (answer.Damaged name error) named takes_it why = absurd why
-operands-refused words rest verb count options (answer.Full full) named takes_it why = absurd why
-operands-refused words rest verb count options answer.Held named takes_it why = absurd why
+operands-refused words rest verb count options refusal.Memory named takes_it why = (verb, operands_of rest, options, names-of words verb rest count options named)
+operands-refused words rest verb count options (refusal.Usage usage.Words) named takes_it why = absurd why
+operands-refused words rest verb count options (refusal.Usage (usage.Operands n)) named takes_it why = absurd why
+operands-refused words rest verb count options (refusal.TooManyReferences number) named takes_it why = absurd why

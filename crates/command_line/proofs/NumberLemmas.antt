@@ -6,8 +6,8 @@ use Rattle.std.specs.Fmt.{decimal}
 use Rattle.std.specs.Int.{IsInRange}
 use Rattle.std.specs.Str.Parse.{AllDigits, ParsesUnsigned, digits_value}
 use Rattle.std.specs.declared.result.Result.{Result}
-use Rattle.cas_tool.specs.Splitting.{leads}
-use Rattle.cas_tool.specs.Words.{IsNumberWithin}
+use Rattle.command_line.specs.Splitting.{leads}
+use Rattle.command_line.specs.Words.{IsNumberWithin}
 
 own : IsNumeralModel (AllDigits 10) (digits_value 10)
 own = numerals_by_value (AllDigits 10) tells_digits

@@ -1,7 +1,7 @@
 // Commands: what the words ask for.
 ghost use Rattle.std.specs.Prelude.{◌≡◌, Some};
-ghost use Rattle.cas_tool.specs.Output.{call_of, shown_by};
-ghost use Rattle.cas_tool.specs.Words.{first_size};
+ghost use Rattle.command_line.specs.Commands.{call_of, shown_by};
+ghost use Rattle.command_line.specs.Words.{first_size};
 
 use cas_model::{Call, Data, Digest, Object, Refs};
 

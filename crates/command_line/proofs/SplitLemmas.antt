@@ -4,13 +4,13 @@ use Rattle.std.specs.Prelude.{String, IfNone, IfSome, unwrap_or}
 use Rattle.std.specs.String.{string_bytes}
 use Rattle.std.specs.declared.alloc.Global.{Global}
 use Rattle.std.specs.declared.option.Option.{Option}
-use Rattle.cas_tool.specs.declared.command.Options.{Options}
-use Rattle.cas_tool.specs.declared.command.Setting.{Setting}
-use Rattle.cas_tool.specs.declared.command.Setting.TheVariants.{Workers, Size, Limit}
-use Rattle.cas_tool.specs.declared.words.Given.{Given}
-use Rattle.cas_tool.proofs.WordLemmas.{first-rest}
-use Rattle.cas_tool.specs.Splitting.{IsValueOf, IsWith, given_for, given_options, no_settings, with_number}
-use Rattle.cas_tool.specs.Words.{HaveOptions, IsGiven, IsNumberWithin, IsSet, begins_dash, is_split, operands_at, operands_of, setting_of, split_at, values_at, values_of}
+use Rattle.command_line.specs.declared.command.Options.{Options}
+use Rattle.command_line.specs.declared.command.Setting.{Setting}
+use Rattle.command_line.specs.declared.command.Setting.TheVariants.{Workers, Size, Limit}
+use Rattle.command_line.specs.declared.words.Given.{Given}
+use Rattle.command_line.proofs.WordLemmas.{first-rest}
+use Rattle.command_line.specs.Splitting.{IsValueOf, IsWith, given_for, given_options, no_settings, with_number}
+use Rattle.command_line.specs.Words.{HaveOptions, IsGiven, IsNumberWithin, IsSet, begins_dash, is_split, operands_at, operands_of, setting_of, split_at, values_at, values_of}
 
 -- ---- one piece
 

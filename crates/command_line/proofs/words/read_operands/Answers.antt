@@ -1,7 +1,7 @@
 -- one more operand
 use Rattle.std.proofs.Common.{◌≡◌, length, rules}
-use Rattle.cas_tool.proofs.WordLemmas.{operands-bad, operands-done, operands-next, operands-none, pushed}
-use Rattle.cas_tool.proofs.words.read_operands.Goals as goal
+use Rattle.command_line.proofs.WordLemmas.{operands-bad, operands-done, operands-next, operands-none, pushed}
+use Rattle.command_line.proofs.words.read_operands.Goals as goal
 
 pub loop-operand-init : goal.loop-operand-init
 loop-operand-init c = operands-none c.args.verb c.new-digests.result.items _ c.new-digests.ensures.items

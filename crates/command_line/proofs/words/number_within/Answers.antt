@@ -1,10 +1,10 @@
 use Rattle.std.proofs.Common.{◌≡◌, Ok, ap, sym, subst, ◌∙◌, arith}
 use Rattle.std.proofs.lemmas.Bool.{false≢true}
 use Rattle.std.specs.String.{string_bytes}
-use Rattle.cas_tool.specs.Splitting.{leads}
-use Rattle.cas_tool.specs.Words.{IsNumberWithin}
-use Rattle.cas_tool.proofs.NumberLemmas.{number-leads, number-parses, number-read}
-use Rattle.cas_tool.proofs.words.number_within.Goals as goal
+use Rattle.command_line.specs.Splitting.{leads}
+use Rattle.command_line.specs.Words.{IsNumberWithin}
+use Rattle.command_line.proofs.NumberLemmas.{number-leads, number-parses, number-read}
+use Rattle.command_line.proofs.words.number_within.Goals as goal
 
 pub returns-then-not-leads : goal.returns-then-not-leads
 returns-then-not-leads c = λ number is.

@@ -1,7 +1,7 @@
 use Rattle.std.proofs.Common.{◌≡◌, codes, false, rules, sym}
-use Rattle.cas_tool.specs.Words.{is_word}
-use Rattle.cas_tool.proofs.WordLemmas.{command-word}
-use Rattle.cas_tool.proofs.words.command.Goals as goal
+use Rattle.command_line.specs.Words.{is_word}
+use Rattle.command_line.proofs.WordLemmas.{command-word}
+use Rattle.command_line.proofs.words.command.Goals as goal
 
 pub returns : goal.returns
 returns c =

@@ -1,7 +1,7 @@
 -- the words before the rest are taken apart
 use Rattle.std.proofs.Common.{length}
-use Rattle.cas_tool.proofs.SplitLemmas.{SoFar}
-use Rattle.cas_tool.proofs.words.split.Given as goal
+use Rattle.command_line.proofs.SplitLemmas.{SoFar}
+use Rattle.command_line.proofs.words.split.Given as goal
 
 abbrev pub invariant-loop-rest : goal.invariant-loop-rest
 invariant-loop-rest l = SoFar l.words l.rest l.count l.given

@@ -2,14 +2,14 @@
 ghost use Rattle.std.specs.Prelude.{◌≡◌, ◌+◌, ◌<◌, ◌≤◌, ℕ, List, String, length, IfOk, IfErr, MatchOption, MatchResult, IfSome, IfNone, Some, None, [], ◌∷◌, true};
 ghost use Rattle.std.specs.String.{string_bytes};
 ghost use Rattle.std.specs.declared.alloc.Global.{Global};
-ghost use Rattle.cas_tool.specs.declared.command.Options.{Options};
-ghost use Rattle.cas_tool.specs.declared.command.Verb.{Verb};
-ghost use Rattle.cas_tool.specs.Words.{verb_of, begins_dash, setting_of, operands_of, takes, is_key, IsNumberWithin, BeginWith, IsCommand, IsWorkload, HaveOptions, NameNone, IsOperand, IsBadOperand, AreOperands, task_of, Reads};
-ghost use Rattle.cas_tool.specs.Splitting.{IsNamed, IsWith, given_for, given_options, IsValueOf, leads, no_settings};
-ghost use Rattle.cas_tool.specs.Run.{OperandsRefused, WordsRefused};
+ghost use Rattle.command_line.specs.declared.command.Options.{Options};
+ghost use Rattle.command_line.specs.declared.command.Verb.{Verb};
+ghost use Rattle.command_line.specs.Words.{verb_of, begins_dash, setting_of, operands_of, takes, is_key, IsNumberWithin, BeginWith, IsCommand, IsWorkload, HaveOptions, NameNone, IsOperand, IsBadOperand, AreOperands, task_of, Reads};
+ghost use Rattle.command_line.specs.Splitting.{IsNamed, IsWith, given_for, given_options, IsValueOf, leads, no_settings};
+ghost use Rattle.command_line.specs.Refusals.{AreRefused, OperandsRefused};
 
-use crate::answer::{Answer, Large, UsageKind};
 use crate::command::{Command, Options, Request, Setting, Task, Verb};
+use crate::refusal::{UsageKind, WordsError};
 use cas_model::{Digest, Id, IdError, Refs};
 use std::alloc::{AllocError, Global};
 
@@ -20,21 +20,18 @@ const MOST_REFS: usize = 65_535;
 const MOST_LIMIT: u64 = 1_099_511_627_776;
 
 /// What the words, those after the program's name, ask for.
-pub fn read_words(alloc: Global, words: &[String]) -> Result<Request, Answer>
-    ensures { MatchResult result (λ request. Reads words.now request) (λ answer. WordsRefused words.now answer) }
+pub fn read_words(alloc: Global, words: &[String]) -> Result<Request, WordsError>
+    ensures { MatchResult result (λ request. Reads words.now request) (λ error. AreRefused words.now error) }
 {
     let Some(parts) = named(words) else {
-        return Err(Answer::Usage(UsageKind::Words));
+        return Err(WordsError::Usage(UsageKind::Words));
     };
     if !parts.verb.takes(parts.count) {
-        return Err(Answer::Usage(UsageKind::Operands(parts.count as u64)));
+        return Err(WordsError::Usage(UsageKind::Operands(parts.count as u64)));
     }
     let digests = read_operands(alloc, parts.verb, parts.rest)?;
     if digests.len() > MOST_REFS {
-        return Err(Answer::TooLarge {
-            what: Large::References,
-            number: digests.len() as u64,
-        });
+        return Err(WordsError::TooManyReferences(digests.len() as u64));
     }
     Ok(Request {
         task: parts.verb.task(digests),
@@ -319,9 +316,9 @@ impl Verb {
 // ---- the operands
 
 // The digests of a command's operands, which stand among these words.
-fn read_operands(alloc: Global, verb: Verb, words: &[String]) -> Result<Vec<Digest>, Answer>
+fn read_operands(alloc: Global, verb: Verb, words: &[String]) -> Result<Vec<Digest>, WordsError>
     ensures ok { IfOk result (λ digests. AreOperands verb 0 digests.items (operands_of words.now)) }
-    ensures err { IfErr result (λ answer. OperandsRefused verb (operands_of words.now) answer) }
+    ensures err { IfErr result (λ error. OperandsRefused verb (operands_of words.now) error) }
 {
     let mut digests = Vec::new(alloc);
     let mut rest = words;
@@ -329,12 +326,12 @@ fn read_operands(alloc: Global, verb: Verb, words: &[String]) -> Result<Vec<Dige
         match read_operand(verb.is_key(digests.len()), operand.as_bytes()) {
             Ok(digest) => {
                 if digests.push(digest).is_err() {
-                    return Err(Answer::NoMemory);
+                    return Err(WordsError::Memory);
                 }
             }
             Err(error) => {
                 let index = digests.len() as u64;
-                return Err(Answer::Usage(UsageKind::BadOperand(index, error)));
+                return Err(WordsError::Usage(UsageKind::BadOperand(index, error)));
             }
         }
         rest = more;

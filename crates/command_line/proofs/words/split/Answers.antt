@@ -1,7 +1,7 @@
 -- one more piece: an operand, or an option and its value
 use Rattle.std.proofs.Common.{sym, refl, arith}
-use Rattle.cas_tool.proofs.SplitLemmas.{bad-option, operand-step, operands-few, option-step, so-far-first, where-none}
-use Rattle.cas_tool.proofs.words.split.Goals as goal
+use Rattle.command_line.proofs.SplitLemmas.{bad-option, operand-step, operands-few, option-step, so-far-first, where-none}
+use Rattle.command_line.proofs.words.split.Goals as goal
 
 pub loop-rest-init : goal.loop-rest-init
 loop-rest-init c = so-far-first c.args.words.now c.none-given.result c.none-given.ensures

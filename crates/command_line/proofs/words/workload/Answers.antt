@@ -1,6 +1,6 @@
 use Rattle.std.proofs.Common.{refl}
-use Rattle.cas_tool.proofs.WordLemmas.{first-rest}
-use Rattle.cas_tool.proofs.words.workload.Goals as goal
+use Rattle.command_line.proofs.WordLemmas.{first-rest}
+use Rattle.command_line.proofs.words.workload.Goals as goal
 
 pub returns : goal.returns
 returns c = record {

@@ -1,8 +1,8 @@
 use Rattle.std.proofs.Common.{ap, ◌∙◌, sym}
 use Rattle.std.proofs.lemmas.Result.{err_from_is_err_and}
-use Rattle.cas_tool.specs.Words.{takes}
-use Rattle.cas_tool.proofs.WordLemmas.{operands-refused, takes-digests}
-use Rattle.cas_tool.proofs.words.read_words.Goals as goal
+use Rattle.command_line.specs.Words.{takes}
+use Rattle.command_line.proofs.WordLemmas.{operands-refused, takes-digests}
+use Rattle.command_line.proofs.words.read_words.Goals as goal
 
 pub returns-in_err-digests : goal.returns-in_err-digests
 returns-in_err-digests c =

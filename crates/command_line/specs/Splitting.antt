@@ -2,12 +2,12 @@
 use Rattle.std.specs.Prelude.{◌≡◌, ℕ, List, [], ◌∷◌, Bool, false, Some, None, ◌&&◌, nat_le, length, unwrap_or, String}
 use Rattle.std.specs.declared.alloc.Global.{Global}
 use Rattle.std.specs.declared.option.Option.{Option}
-use Rattle.cas_tool.specs.declared.command.Options.{Options}
-use Rattle.cas_tool.specs.declared.command.Setting.{Setting}
-use Rattle.cas_tool.specs.declared.command.Setting.TheVariants.{Workers, Size, Limit}
-use Rattle.cas_tool.specs.declared.command.Verb.{Verb}
-use Rattle.cas_tool.specs.declared.words.Given.{Given}
-use Rattle.cas_tool.specs.Words.{BeginWith, HaveOptions, IsNumberWithin, operands_of}
+use Rattle.command_line.specs.declared.command.Options.{Options}
+use Rattle.command_line.specs.declared.command.Setting.{Setting}
+use Rattle.command_line.specs.declared.command.Setting.TheVariants.{Workers, Size, Limit}
+use Rattle.command_line.specs.declared.command.Verb.{Verb}
+use Rattle.command_line.specs.declared.words.Given.{Given}
+use Rattle.command_line.specs.Words.{BeginWith, HaveOptions, IsNumberWithin, operands_of}
 
 -- one decimal digit, or more bytes of which the first is a digit and not 0
 abbrev pub leads : List ℕ → Bool

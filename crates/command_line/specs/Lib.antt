@@ -1,0 +1,4 @@
+pub mod Words
+pub mod Refusals
+pub mod Commands
+pub mod Splitting
