@@ -1,8 +1,8 @@
 // A store that goes on in new generations, over a folder in memory.
-ghost use Rattle.std.specs.Prelude.{◌≡◌, None};
+ghost use Rattle.std.specs.Prelude.{◌≡◌, None, IfOk};
 
 use crate::answer::Answer;
-use crate::testing::{HELLO, Ran, folder_failing, fresh_folder, run_in};
+use crate::testing::{HELLO, end_in, folder_failing, fresh_folder, nothing, run_in, tells, writes};
 use cas_outside::MemFolder;
 use image_file::ImageError;
 use std::alloc::{AllocError, Global};
@@ -33,38 +33,41 @@ fn spine_script(alloc: Global) -> Result<String, AllocError> {
     Ok(text)
 }
 
-// What a check of the images tells.
-fn valid_in(rt: &HostRuntime, folder: &mut MemFolder) -> Result<Ran, Fail>
-    requires { folder.old.asked ≡ None }
-    ensures { folder.new.asked ≡ None }
+// A folder whose first generation has the spine and the object beside it, under a second one that is empty.
+fn folder_with_spine(rt: &HostRuntime) -> Result<MemFolder, Fail>
+    ensures { IfOk result (λ folder. folder.asked ≡ None) }
 {
-    run_in(rt, folder, &["--validate"], b"")
+    let mut folder = fresh_folder(rt.alloc());
+    let script = spine_script(rt.alloc())?;
+    run_in(
+        rt,
+        &mut folder,
+        &["--batch", "--limit", "0"],
+        script.as_bytes(),
+    )?;
+    Ok(folder)
 }
 
 #[test]
 fn what_is_used_is_brought_over_with_its_tree(rt: HostRuntime) -> Result<(), Fail> {
-    let mut folder = fresh_folder(rt.alloc());
-    let script = spine_script(rt.alloc())?;
-    let words = ["--batch", "--limit", "0"];
-    let made = run_in(&rt, &mut folder, &words, script.as_bytes())?;
-    assert_eq!(rt; made.status, 0);
-    let valid = valid_in(&rt, &mut folder)?;
-    assert!(rt; valid.ended(0, b"valid v1.2 0 0\nvalid v1.1 1001 2\n"));
+    let mut folder = folder_with_spine(&rt)?;
+    assert!(rt; tells(&rt, &mut folder, b"valid v1.2 0 0\nvalid v1.1 1001 2\n")?);
     let words = ["--get-cache-result", "action:root"];
-    let hit = run_in(&rt, &mut folder, &words, b"")?;
-    assert!(rt; hit.ended(0, ROOT.as_bytes()));
-    let valid = valid_in(&rt, &mut folder)?;
-    assert!(rt; valid.ended(0, b"valid v1.2 1000 1\nvalid v1.1 1001 2\n"));
+    assert!(rt; writes(&rt, &mut folder, &words, b"", ROOT.as_bytes())?);
+    assert!(rt; tells(&rt, &mut folder, b"valid v1.2 1000 1\nvalid v1.1 1001 2\n")?);
+    Ok(())
+}
+
+#[test]
+fn what_is_not_used_falls_away(rt: HostRuntime) -> Result<(), Fail> {
+    let mut folder = folder_with_spine(&rt)?;
     let words = ["--get-cache-result", "--limit", "0", "action:root"];
-    let again = run_in(&rt, &mut folder, &words, b"")?;
-    assert!(rt; again.ended(0, ROOT.as_bytes()));
-    let valid = valid_in(&rt, &mut folder)?;
-    assert!(rt; valid.ended(0, b"valid v1.3 0 0\nvalid v1.2 1000 1\n"));
+    assert!(rt; writes(&rt, &mut folder, &words, b"", ROOT.as_bytes())?);
+    assert!(rt; tells(&rt, &mut folder, b"valid v1.3 0 0\nvalid v1.2 1000 1\n")?);
     let words = ["--get-cache-result", "action:lonely"];
-    let lost = run_in(&rt, &mut folder, &words, b"")?;
-    assert_eq!(rt; (lost.status, lost.sink.written().len()), (1, 0));
-    let pruned = run_in(&rt, &mut folder, &["--prune"], b"")?;
-    assert!(rt; pruned.ended(0, b"pruned 1\n"));
+    let lost = end_in(&rt, &mut folder, &words, b"")?;
+    assert_eq!(rt; (lost.status, lost.written), (1, 0));
+    assert!(rt; writes(&rt, &mut folder, &["--prune"], b"", b"pruned 1\n")?);
     assert_eq!(rt; folder.file(b"v1.1").is_none(), true);
     Ok(())
 }
@@ -76,10 +79,8 @@ fn a_full_store_goes_on_in_a_new_generation(rt: HostRuntime) -> Result<(), Fail>
     script.extend_from_slice(&vec![in rt.alloc(); b'a'; count_of(28_568)]?)?;
     script.extend_from_slice(b"\nstore t:ok\n")?;
     let words = ["--batch", "--size", "4096"];
-    let ran = run_in(&rt, &mut folder, &words, &script)?;
-    assert!(rt; ran.ended(0, FULL_AND_OK.as_bytes()));
-    let valid = valid_in(&rt, &mut folder)?;
-    assert!(rt; valid.ended(0, b"valid v1.2 0 0\nvalid v1.1 1 0\n"));
+    assert!(rt; writes(&rt, &mut folder, &words, &script, FULL_AND_OK.as_bytes())?);
+    assert!(rt; tells(&rt, &mut folder, b"valid v1.2 0 0\nvalid v1.1 1 0\n")?);
     Ok(())
 }
 
@@ -93,13 +94,11 @@ fn a_failed_rotation_keeps_what_was_saved(rt: HostRuntime) -> Result<(), Fail> {
     // It enters, locks, lists and saves, and its next call fails.
     let mut folder = folder_failing(rt.alloc(), &[5])?;
     let words = ["--make-blob", "--limit", "0"];
-    let failed = run_in(&rt, &mut folder, &words, b"hello")?;
-    assert_eq!(rt; (failed.status, failed.answer), (5, Answer::FolderFault));
-    assert_eq!(rt; failed.sink.written().len(), 0);
+    let fault = nothing(5, Answer::FolderFault);
+    assert_eq!(rt; end_in(&rt, &mut folder, &words, b"hello")?, fault);
     assert_eq!(rt; folder.file(b"v1.2").is_none(), true);
     let words = ["--cat-node-data", HELLO.trim_end()];
-    let back = run_in(&rt, &mut folder, &words, b"")?;
-    assert!(rt; back.ended(0, b"hello"));
+    assert!(rt; writes(&rt, &mut folder, &words, b"", b"hello")?);
     Ok(())
 }
 
@@ -113,10 +112,14 @@ fn the_last_number_is_not_passed(rt: HostRuntime) -> Result<(), Fail> {
     };
     folder.set_file(b"v1.4294967295", &image)?;
     let words = ["--make-blob", "--limit", "0"];
-    let ran = run_in(&rt, &mut folder, &words, b"x")?;
-    assert_eq!(rt; ran.status, 0);
-    let valid = valid_in(&rt, &mut folder)?;
-    assert!(rt; valid.ended(0, b"valid v1.4294967295 2 0\nvalid v1.1 1 0\n"));
+    assert_eq!(rt; end_in(&rt, &mut folder, &words, b"x")?.status, 0);
+    assert!(rt;
+        tells(
+            &rt,
+            &mut folder,
+            b"valid v1.4294967295 2 0\nvalid v1.1 1 0\n"
+        )?
+    );
     Ok(())
 }
 
@@ -126,13 +129,12 @@ fn a_damaged_upstream_is_refused_by_name(rt: HostRuntime) -> Result<(), Fail> {
     let words = ["--make-blob", "--limit", "0"];
     run_in(&rt, &mut folder, &words, b"hello")?;
     folder.set_file(b"v1.1", b"short")?;
-    let ran = run_in(&rt, &mut folder, &["--make-blob"], b"x")?;
     let damaged = Answer::Damaged {
         name: 1,
         error: ImageError::Short,
     };
-    assert_eq!(rt; (ran.status, ran.answer), (6, damaged));
-    assert_eq!(rt; ran.sink.written().len(), 0);
+    let end = end_in(&rt, &mut folder, &["--make-blob"], b"x")?;
+    assert_eq!(rt; end, nothing(6, damaged));
     Ok(())
 }
 
@@ -141,7 +143,7 @@ fn an_empty_primary_is_not_rotated(rt: HostRuntime) -> Result<(), Fail> {
     // Where nothing is stored, nothing is written.
     let mut folder = folder_failing(rt.alloc(), &[4])?;
     let words = ["--get-cache-result", "--limit", "0", "action:k"];
-    let miss = run_in(&rt, &mut folder, &words, b"")?;
-    assert_eq!(rt; (miss.status, miss.sink.written().len()), (1, 0));
+    let miss = end_in(&rt, &mut folder, &words, b"")?;
+    assert_eq!(rt; (miss.status, miss.written), (1, 0));
     Ok(())
 }

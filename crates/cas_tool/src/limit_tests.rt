@@ -2,7 +2,7 @@
 ghost use Rattle.std.specs.Prelude.{◌≡◌, None};
 
 use crate::answer::{Answer, Large};
-use crate::testing::{Ran, folder_failing, fresh_folder, run_in, run_over};
+use crate::testing::{End, end_in, folder_failing, fresh_folder, nothing, run_over, tells, writes};
 use cas_model::Full;
 use cas_outside::{MemFolder, MemSink, MemSource};
 use std::alloc::Global;
@@ -37,14 +37,12 @@ fn sink_for(alloc: Global, count: u64) -> Result<MemSink, Fail> {
 fn the_largest_blob_is_read_back(rt: HostRuntime) -> Result<(), Fail> {
     let mut folder = fresh_folder(rt.alloc());
     let most = bytes_of(rt.alloc(), b'a', 16_777_215)?;
-    let saved = run_in(&rt, &mut folder, &["--make-blob"], &most)?;
-    assert!(rt; saved.ended(0, MOST.as_bytes()));
+    assert!(rt; writes(&rt, &mut folder, &["--make-blob"], &most, MOST.as_bytes())?);
     assert_eq!(rt; length_of(&folder), Some(16_781_456));
     let source = MemSource::new(Vec::new(rt.alloc()), Vec::new(rt.alloc()));
     let sink = sink_for(rt.alloc(), 16_777_215)?;
     let words = ["--cat-node-data", MOST.trim_end()];
-    let back = run_over(&rt, &mut folder, &words, source, sink)?;
-    assert!(rt; back.ended(0, &most));
+    assert!(rt; run_over(&rt, &mut folder, &words, source, sink)?.wrote(&most));
     Ok(())
 }
 
@@ -53,58 +51,68 @@ fn one_byte_more_is_too_large(rt: HostRuntime) -> Result<(), Fail> {
     // The folder is not asked for anything: its first call would fail.
     let mut folder = folder_failing(rt.alloc(), &[1])?;
     let over = bytes_of(rt.alloc(), b'a', 16_777_216)?;
-    let ran = run_in(&rt, &mut folder, &["--make-blob"], &over)?;
     let large = Answer::TooLarge {
         what: Large::Data,
         number: 16_777_216,
     };
-    assert_eq!(rt; (ran.status, ran.answer), (12, large));
-    assert_eq!(rt; ran.sink.written().len(), 0);
+    let end = end_in(&rt, &mut folder, &["--make-blob"], &over)?;
+    assert_eq!(rt; end, nothing(12, large));
     Ok(())
+}
+
+// How `--make-blob` on so many letters a ends, where a region that is made has so many words.
+fn make_letters(
+    rt: &HostRuntime,
+    folder: &mut MemFolder,
+    size: &str,
+    count: usize,
+) -> Result<End, Fail>
+    requires { folder.old.asked ≡ None }
+    ensures { folder.new.asked ≡ None }
+{
+    let bytes = bytes_of(rt.alloc(), b'a', count)?;
+    end_in(rt, folder, &["--make-blob", "--size", size], &bytes)
+}
+
+// The end of a run one of whose claims was refused in a region of 4,096 words.
+fn full(at: u64, asked: u64) -> End {
+    let size = 4_096;
+    nothing(7, Answer::Full(Full { at, asked, size }))
 }
 
 #[test]
 fn a_full_store_loses_nothing_and_goes_on(rt: HostRuntime) -> Result<(), Fail> {
     let mut folder = fresh_folder(rt.alloc());
-    let words = ["--make-blob", "--size", "4096"];
-    let over = bytes_of(rt.alloc(), b'a', 28_568)?;
-    let first = run_in(&rt, &mut folder, &words, &over)?;
-    let full = Answer::Full(Full {
-        at: 525,
-        asked: 3_572,
-        size: 4_096,
-    });
-    assert_eq!(rt; (first.status, first.answer), (7, full));
-    assert_eq!(rt; length_of(&folder), None);
-    let least = bytes_of(rt.alloc(), b'a', 28_560)?;
-    assert_eq!(rt; run_in(&rt, &mut folder, &words, &least)?.status, 0);
-    assert_eq!(rt; length_of(&folder), Some(32_800));
+    let over = make_letters(&rt, &mut folder, "4096", 28_568)?;
+    assert_eq!(rt; (over, length_of(&folder)), (full(525, 3_572), None));
+    let least = make_letters(&rt, &mut folder, "4096", 28_560)?;
+    assert_eq!(rt; (least.status, length_of(&folder)), (0, Some(32_800)));
     // The primary keeps its size, and the new generation has the one that is asked for.
-    let words = ["--make-blob", "--size", "5000"];
-    let full = Answer::Full(Full {
-        at: 4_096,
-        asked: 5,
-        size: 4_096,
-    });
-    let more = run_in(&rt, &mut folder, &words, b"x")?;
-    assert_eq!(rt; (more.status, more.answer), (7, full));
-    assert_eq!(rt; more.sink.written().len(), 0);
-    let valid = run_in(&rt, &mut folder, &["--validate"], b"")?;
-    assert!(rt; valid.ended(0, b"valid v1.2 0 0\nvalid v1.1 1 0\n"));
-    let back = run_in(&rt, &mut folder, &["--cat-node-data", LEAST], b"")?;
-    assert!(rt; back.ended(0, &least));
-    let valid = run_in(&rt, &mut folder, &["--validate"], b"")?;
-    assert!(rt; valid.ended(0, b"valid v1.2 1 0\nvalid v1.1 1 0\n"));
+    let more = make_letters(&rt, &mut folder, "5000", 1)?;
+    assert_eq!(rt; more, full(4_096, 5));
+    assert!(rt; tells(&rt, &mut folder, b"valid v1.2 0 0\nvalid v1.1 1 0\n")?);
     Ok(())
 }
 
-// Runs `--make-blob` on so many bytes, all the same.
-fn make_blob(rt: &HostRuntime, folder: &mut MemFolder, byte: u8, count: usize) -> Result<Ran, Fail>
+#[test]
+fn a_new_generation_brings_over_what_filled_the_last(rt: HostRuntime) -> Result<(), Fail> {
+    let mut folder = fresh_folder(rt.alloc());
+    make_letters(&rt, &mut folder, "4096", 28_560)?;
+    make_letters(&rt, &mut folder, "5000", 1)?;
+    let least = bytes_of(rt.alloc(), b'a', 28_560)?;
+    let words = ["--cat-node-data", LEAST];
+    assert!(rt; writes(&rt, &mut folder, &words, b"", &least)?);
+    assert!(rt; tells(&rt, &mut folder, b"valid v1.2 1 0\nvalid v1.1 1 0\n")?);
+    Ok(())
+}
+
+// The status of `--make-blob` on so many bytes, all the same.
+fn make_blob(rt: &HostRuntime, folder: &mut MemFolder, byte: u8, count: usize) -> Result<u8, Fail>
     requires { folder.old.asked ≡ None }
     ensures { folder.new.asked ≡ None }
 {
     let bytes = bytes_of(rt.alloc(), byte, count)?;
-    run_in(rt, folder, &["--make-blob"], &bytes)
+    Ok(end_in(rt, folder, &["--make-blob"], &bytes)?.status)
 }
 
 // The script that stores an object of so many bytes, all the same, and then a small one.
@@ -118,14 +126,12 @@ fn large_and_small(alloc: Global, byte: u8, count: usize) -> Result<Vec<u8>, Fai
 #[test]
 fn lines_that_do_not_fit_are_told(rt: HostRuntime) -> Result<(), Fail> {
     let mut folder = fresh_folder(rt.alloc());
-    assert_eq!(rt; make_blob(&rt, &mut folder, b'a', 16_777_215)?.status, 0);
-    assert_eq!(rt; make_blob(&rt, &mut folder, b'b', 16_700_000)?.status, 0);
+    assert_eq!(rt; make_blob(&rt, &mut folder, b'a', 16_777_215)?, 0);
+    assert_eq!(rt; make_blob(&rt, &mut folder, b'b', 16_700_000)?, 0);
     // The words so far are 520, then 5 and 2,097,153, and 5 and 2,087,501. The line's record fits, and its content does not.
     assert_eq!(rt; length_of(&folder), Some(33_481_504));
     let script = large_and_small(rt.alloc(), b'c', 80_000)?;
-    let ran = run_in(&rt, &mut folder, &["--batch"], &script)?;
-    assert!(rt; ran.ended(0, TOLD.as_bytes()));
-    let valid = run_in(&rt, &mut folder, &["--validate"], b"")?;
-    assert!(rt; valid.ended(0, b"valid v1.2 0 0\nvalid v1.1 3 0\n"));
+    assert!(rt; writes(&rt, &mut folder, &["--batch"], &script, TOLD.as_bytes())?);
+    assert!(rt; tells(&rt, &mut folder, b"valid v1.2 0 0\nvalid v1.1 3 0\n")?);
     Ok(())
 }

@@ -2,7 +2,10 @@
 ghost use Rattle.std.specs.Prelude.{◌≡◌, None, IfOk};
 
 use crate::answer::Answer;
-use crate::testing::{EMPTY, HELLO, Ran, ZERO, folder_failing, fresh_folder, run_failing, run_in};
+use crate::testing::{
+    EMPTY, End, HELLO, ZERO, end_in, folder_failing, fresh_folder, nothing, run_failing, run_in,
+    tells, writes,
+};
 use cas_model::{Digest, Id};
 use cas_outside::MemFolder;
 use image_file::ImageError;
@@ -22,25 +25,33 @@ fn length_of(folder: &MemFolder) -> Option<usize> {
     folder.file(b"v1.1").map(|bytes| bytes.len())
 }
 
+// Whether a blob of these bytes is made, with this id.
+fn makes(rt: &HostRuntime, folder: &mut MemFolder, data: &[u8], id: &str) -> Result<bool, Fail>
+    requires { folder.old.asked ≡ None }
+    ensures { folder.new.asked ≡ None }
+{
+    writes(rt, folder, &["--make-blob"], data, id.as_bytes())
+}
+
 #[test]
-fn a_blob_is_saved_once(rt: HostRuntime) -> Result<(), Fail> {
+fn a_blob_is_saved_and_read_back(rt: HostRuntime) -> Result<(), Fail> {
     let mut folder = fresh_folder(rt.alloc());
-    let empty = run_in(&rt, &mut folder, &["--make-blob"], b"")?;
-    assert_eq!(rt; (empty.status, empty.answer), (0, Answer::Done));
-    assert_eq!(rt; empty.sink.written(), EMPTY.as_bytes());
+    assert!(rt; makes(&rt, &mut folder, b"", EMPTY)?);
     assert_eq!(rt; length_of(&folder), Some(4_240));
-    run_in(&rt, &mut folder, &["--make-blob"], b"hello")?;
+    assert!(rt; makes(&rt, &mut folder, b"hello", HELLO)?);
     let words = ["--cat-node-data", HELLO.trim_end()];
-    let back = run_in(&rt, &mut folder, &words, b"")?;
-    assert!(rt; back.ended(0, b"hello"));
+    assert!(rt; writes(&rt, &mut folder, &words, b"", b"hello")?);
+    Ok(())
+}
+
+#[test]
+fn what_is_stored_is_not_saved_again(rt: HostRuntime) -> Result<(), Fail> {
     // The second run enters, locks, lists and reads, and its next call would fail.
     let mut folder = folder_failing(rt.alloc(), &[9])?;
-    let first = run_in(&rt, &mut folder, &["--make-blob"], b"hello")?;
-    assert!(rt; first.ended(0, HELLO.as_bytes()));
-    assert_eq!(rt; length_of(&folder), Some(4_248));
-    let again = run_in(&rt, &mut folder, &["--make-blob"], b"hello")?;
-    assert!(rt; again.ended(0, HELLO.as_bytes()));
-    assert_eq!(rt; length_of(&folder), Some(4_248));
+    for _ in 0..2 {
+        assert!(rt; makes(&rt, &mut folder, b"hello", HELLO)?);
+        assert_eq!(rt; length_of(&folder), Some(4_248));
+    }
     Ok(())
 }
 
@@ -48,95 +59,106 @@ fn a_blob_is_saved_once(rt: HostRuntime) -> Result<(), Fail> {
 fn nodes_refer_to_what_is_there(rt: HostRuntime) -> Result<(), Fail> {
     let mut folder = fresh_folder(rt.alloc());
     let empty = EMPTY.trim_end();
-    run_in(&rt, &mut folder, &["--make-blob"], b"")?;
-    let blob = run_in(&rt, &mut folder, &["--make-blob"], b"hello")?;
-    assert_eq!(rt; blob.sink.written(), HELLO.as_bytes());
-    let node = run_in(&rt, &mut folder, &["--make-node", empty], b"hello")?;
+    assert!(rt; makes(&rt, &mut folder, b"", EMPTY)?);
+    assert!(rt; makes(&rt, &mut folder, b"hello", HELLO)?);
+    let node = end_in(&rt, &mut folder, &["--make-node", empty], b"hello")?;
     assert_eq!(rt; node.status, 0);
-    assert!(rt; node.sink.written() != HELLO.as_bytes());
     let saved = length_of(&folder);
     let dangling = Answer::Dangling {
         index: 1,
         digest: ABSENT,
     };
-    let loose = run_in(&rt, &mut folder, &["--make-node", empty, ZERO], b"x")?;
-    assert_eq!(rt; (loose.status, loose.answer), (9, dangling));
-    assert_eq!(rt; loose.sink.written().len(), 0);
+    let words = ["--make-node", empty, ZERO];
+    assert_eq!(rt;
+        end_in(&rt, &mut folder, &words, b"x")?,
+        nothing(9, dangling)
+    );
     assert_eq!(rt; length_of(&folder), saved);
+    Ok(())
+}
+
+#[test]
+fn the_references_of_a_node_are_listed(rt: HostRuntime) -> Result<(), Fail> {
+    let mut folder = fresh_folder(rt.alloc());
+    let empty = EMPTY.trim_end();
+    assert!(rt; makes(&rt, &mut folder, b"", EMPTY)?);
     let words = ["--make-node", empty, empty, empty];
-    assert_eq!(rt; run_in(&rt, &mut folder, &words, b"")?.status, 0);
+    assert_eq!(rt; end_in(&rt, &mut folder, &words, b"")?.status, 0);
     let leaf = Digest::of(&[], b"");
     let three = id_of(rt.alloc(), Digest::of(&[leaf, leaf, leaf], b""))?;
-    let refs = run_in(&rt, &mut folder, &["--ls-node-refs", &three], b"")?;
     let wanted = format!(in rt.alloc(); "{EMPTY}{EMPTY}{EMPTY}")?;
-    assert!(rt; refs.ended(0, wanted.as_bytes()));
+    let words = ["--ls-node-refs", &three];
+    assert!(rt; writes(&rt, &mut folder, &words, b"", wanted.as_bytes())?);
     Ok(())
 }
 
 #[test]
 fn what_is_not_there_saves_nothing(rt: HostRuntime) -> Result<(), Fail> {
     let mut folder = fresh_folder(rt.alloc());
-    let missing = run_in(&rt, &mut folder, &["--cat-node-data", ZERO], b"")?;
-    assert_eq!(rt;
-        (missing.status, missing.answer),
-        (1, Answer::Missing(ABSENT))
-    );
-    assert_eq!(rt; missing.sink.written().len(), 0);
+    let missing = end_in(&rt, &mut folder, &["--cat-node-data", ZERO], b"")?;
+    assert_eq!(rt; missing, nothing(1, Answer::Missing(ABSENT)));
     assert_eq!(rt; length_of(&folder), None);
-    let valid = run_in(&rt, &mut folder, &["--validate"], b"")?;
-    assert_eq!(rt; (valid.status, valid.sink.written().len()), (0, 0));
+    assert!(rt; tells(&rt, &mut folder, b"")?);
     Ok(())
+}
+
+// The digests of the objects with the data `a` and `b`.
+fn values() -> (Digest, Digest) {
+    (Digest::of(&[], b"a"), Digest::of(&[], b"b"))
+}
+
+// How a put of `action:k` with the id of this digest ends.
+fn put_in(rt: &HostRuntime, folder: &mut MemFolder, value: Digest) -> Result<End, Fail>
+    requires { folder.old.asked ≡ None }
+    ensures { folder.new.asked ≡ None }
+{
+    let id = id_of(rt.alloc(), value)?;
+    end_in(rt, folder, &["--put-cache-key", "action:k", &id], b"")
 }
 
 #[test]
 fn a_key_keeps_its_first_value(rt: HostRuntime) -> Result<(), Fail> {
     let mut folder = fresh_folder(rt.alloc());
-    let a = Digest::of(&[], b"a");
-    let b = Digest::of(&[], b"b");
-    let id_a = id_of(rt.alloc(), a)?;
-    let id_b = id_of(rt.alloc(), b)?;
+    let (a, b) = values();
     run_in(&rt, &mut folder, &["--make-blob"], b"a")?;
     run_in(&rt, &mut folder, &["--make-blob"], b"b")?;
-    let kept = run_in(
-        &rt,
-        &mut folder,
-        &["--put-cache-key", "action:k", &id_a],
-        b"",
-    )?;
-    let wanted = format!(in rt.alloc(); "kept {id_a}\n")?;
-    assert!(rt; kept.ended(0, wanted.as_bytes()));
+    // The word `kept`, a space, the id and the line end.
+    let kept = End {
+        status: 0,
+        answer: Answer::Done,
+        written: 80,
+    };
+    assert_eq!(rt; put_in(&rt, &mut folder, a)?, kept);
     let poisoned = Answer::Poisoned { wanted: b, kept: a };
-    let other = run_in(
-        &rt,
-        &mut folder,
-        &["--put-cache-key", "action:k", &id_b],
-        b"",
-    )?;
-    assert_eq!(rt; (other.status, other.answer), (8, poisoned));
-    let hit = run_in(&rt, &mut folder, &["--get-cache-result", "action:k"], b"")?;
-    let wanted = format!(in rt.alloc(); "{id_a}\n")?;
-    assert!(rt; hit.ended(0, wanted.as_bytes()));
+    assert_eq!(rt; put_in(&rt, &mut folder, b)?, nothing(8, poisoned));
     let dangling = Answer::Dangling {
         index: 0,
         digest: ABSENT,
     };
-    let loose = run_in(
-        &rt,
-        &mut folder,
-        &["--put-cache-key", "action:k", ZERO],
-        b"",
-    )?;
-    assert_eq!(rt; (loose.status, loose.answer), (9, dangling));
-    let valid = run_in(&rt, &mut folder, &["--validate"], b"")?;
-    assert!(rt; valid.ended(0, b"valid v1.1 2 1\n"));
+    assert_eq!(rt; put_in(&rt, &mut folder, ABSENT)?, nothing(9, dangling));
+    assert!(rt; tells(&rt, &mut folder, b"valid v1.1 2 1\n")?);
     Ok(())
 }
 
-// The answer to an image of which so many bytes are left.
-fn refusal_of(rt: &HostRuntime, image: &[u8], left: usize) -> Result<Ran, Fail> {
+#[test]
+fn a_value_is_told_as_its_id(rt: HostRuntime) -> Result<(), Fail> {
+    let mut folder = fresh_folder(rt.alloc());
+    run_in(&rt, &mut folder, &["--make-blob"], b"a")?;
+    let id = id_of(rt.alloc(), values().0)?;
+    let wanted = format!(in rt.alloc(); "kept {id}\n")?;
+    let words = ["--put-cache-key", "action:k", &id];
+    assert!(rt; writes(&rt, &mut folder, &words, b"", wanted.as_bytes())?);
+    let wanted = format!(in rt.alloc(); "{id}\n")?;
+    let words = ["--get-cache-result", "action:k"];
+    assert!(rt; writes(&rt, &mut folder, &words, b"", wanted.as_bytes())?);
+    Ok(())
+}
+
+// How a check ends of an image of which so many bytes are left.
+fn refusal_of(rt: &HostRuntime, image: &[u8], left: usize) -> Result<End, Fail> {
     let mut folder = fresh_folder(rt.alloc());
     folder.set_file(b"v1.1", &image[..left.min(image.len())])?;
-    run_in(rt, &mut folder, &["--validate"], b"")
+    end_in(rt, &mut folder, &["--validate"], b"")
 }
 
 // The image of a store of one blob.
@@ -151,23 +173,18 @@ fn image_with(rt: &HostRuntime, data: &[u8]) -> Result<Vec<u8>, Fail> {
 fn a_damaged_image_is_refused_by_name(rt: HostRuntime) -> Result<(), Fail> {
     let image = image_with(&rt, b"hello")?;
     assert_eq!(rt; image.len(), 4_248);
-    let damaged = |error| Answer::Damaged { name: 1, error };
-    let ragged = refusal_of(&rt, &image, 4_247)?;
+    let damaged = |error| nothing(6, Answer::Damaged { name: 1, error });
     assert_eq!(rt;
-        (ragged.status, ragged.answer),
-        (6, damaged(ImageError::Ragged))
+        refusal_of(&rt, &image, 4_247)?,
+        damaged(ImageError::Ragged)
     );
-    let short = refusal_of(&rt, &image, 4_191)?;
-    assert_eq!(rt;
-        (short.status, short.answer),
-        (6, damaged(ImageError::Short))
-    );
+    assert_eq!(rt; refusal_of(&rt, &image, 4_191)?, damaged(ImageError::Short));
     let mut flipped = image;
     if let Some(byte) = flipped.get_mut(4_200) {
         *byte ^= 1;
     }
     let sum = refusal_of(&rt, &flipped, 4_248)?;
-    assert_eq!(rt; sum.status, 6);
+    assert_eq!(rt; (sum.status, sum.written), (6, 0));
     assert!(rt;
         matches!(
             sum.answer,
@@ -177,59 +194,67 @@ fn a_damaged_image_is_refused_by_name(rt: HostRuntime) -> Result<(), Fail> {
             }
         )
     );
-    assert_eq!(rt; sum.sink.written().len(), 0);
     Ok(())
 }
 
 #[test]
 fn each_fault_of_the_folder_is_answered(rt: HostRuntime) -> Result<(), Fail> {
+    let fault = nothing(5, Answer::FolderFault);
     // A first run enters, locks, lists and saves; a second one enters, locks, lists, reads and saves.
     for call in 1..5 {
         let mut folder = folder_failing(rt.alloc(), &[call])?;
-        let ran = run_in(&rt, &mut folder, &["--make-blob"], b"hello")?;
-        assert_eq!(rt; (ran.status, ran.answer), (5, Answer::FolderFault));
-        assert_eq!(rt; ran.sink.written().len(), 0);
-        assert_eq!(rt; length_of(&folder), None);
+        let end = end_in(&rt, &mut folder, &["--make-blob"], b"hello")?;
+        assert_eq!(rt; (end, length_of(&folder)), (fault, None));
     }
     for call in 5..10 {
         let mut folder = folder_failing(rt.alloc(), &[call])?;
         run_in(&rt, &mut folder, &["--make-blob"], b"hello")?;
-        let ran = run_in(&rt, &mut folder, &["--make-blob"], b"other")?;
-        assert_eq!(rt; (ran.status, ran.answer), (5, Answer::FolderFault));
-        assert_eq!(rt; length_of(&folder), Some(4_248));
+        let end = end_in(&rt, &mut folder, &["--make-blob"], b"other")?;
+        assert_eq!(rt; (end, length_of(&folder)), (fault, Some(4_248)));
     }
+    Ok(())
+}
+
+#[test]
+fn a_held_folder_is_left_alone(rt: HostRuntime) -> Result<(), Fail> {
     let mut held = MemFolder::new(Vec::new(rt.alloc()), [2].to_vec(rt.alloc())?);
-    let ran = run_in(&rt, &mut held, &["--make-blob"], b"hello")?;
-    assert_eq!(rt; (ran.status, ran.answer), (11, Answer::Held));
+    let end = end_in(&rt, &mut held, &["--make-blob"], b"hello")?;
+    assert_eq!(rt; (end, length_of(&held)), (nothing(11, Answer::Held), None));
     Ok(())
 }
 
 #[test]
 fn what_was_stored_stays_where_the_output_fails(rt: HostRuntime) -> Result<(), Fail> {
     let mut folder = fresh_folder(rt.alloc());
-    let unwritten = run_failing(&rt, &mut folder, &["--make-blob"], b"hello", &[], &[1])?;
-    assert_eq!(rt;
-        (unwritten.status, unwritten.answer),
-        (4, Answer::WriteFault)
-    );
-    assert_eq!(rt; unwritten.sink.written().len(), 0);
+    let end = run_failing(&rt, &mut folder, &["--make-blob"], b"hello", &[], &[1])?.end();
+    assert_eq!(rt; end, nothing(4, Answer::WriteFault));
     assert_eq!(rt; length_of(&folder), Some(4_248));
+    Ok(())
+}
+
+#[test]
+fn the_folder_is_not_entered_where_the_input_fails(rt: HostRuntime) -> Result<(), Fail> {
+    // The folder's first call would fail.
     let mut folder = folder_failing(rt.alloc(), &[1])?;
-    let unread = run_failing(&rt, &mut folder, &["--make-blob"], b"hello", &[1], &[])?;
-    assert_eq!(rt; (unread.status, unread.answer), (3, Answer::ReadFault));
+    let end = run_failing(&rt, &mut folder, &["--make-blob"], b"hello", &[1], &[])?.end();
+    assert_eq!(rt; end, nothing(3, Answer::ReadFault));
     Ok(())
 }
 
 #[test]
 fn other_names_are_ignored(rt: HostRuntime) -> Result<(), Fail> {
     let mut folder = fresh_folder(rt.alloc());
-    run_in(&rt, &mut folder, &["--make-blob"], b"")?;
-    folder.set_file(b"v1.0", b"any")?;
-    folder.set_file(b"v1.01", b"any")?;
-    folder.set_file(b"v2", b"any")?;
-    folder.set_file(b"notes", b"any")?;
-    let valid = run_in(&rt, &mut folder, &["--validate"], b"")?;
-    assert!(rt; valid.ended(0, b"valid v1.1 1 0\n"));
+    assert!(rt; makes(&rt, &mut folder, b"", EMPTY)?);
+    let names = [
+        b"v1.0".as_slice(),
+        b"v1.01".as_slice(),
+        b"v2".as_slice(),
+        b"notes".as_slice(),
+    ];
+    for name in names {
+        folder.set_file(name, b"any")?;
+    }
+    assert!(rt; tells(&rt, &mut folder, b"valid v1.1 1 0\n")?);
     Ok(())
 }
 
@@ -260,19 +285,20 @@ fn unused_in(folder: &MemFolder) -> [bool; 3] {
 #[test]
 fn unused_generations_are_removed(rt: HostRuntime) -> Result<(), Fail> {
     let mut folder = folder_with(&rt, &[], &[])?;
-    let pruned = run_in(&rt, &mut folder, &["--prune"], b"")?;
-    assert!(rt; pruned.ended(0, b"pruned 3\n"));
+    assert!(rt; writes(&rt, &mut folder, &["--prune"], b"", b"pruned 3\n")?);
     assert_eq!(rt; unused_in(&folder), [false, false, false]);
     assert!(rt; folder.file(b"v1.01").is_some());
     assert!(rt; folder.file(b"notes").is_some());
-    let valid = run_in(&rt, &mut folder, &["--validate"], b"")?;
-    assert!(rt; valid.ended(0, b"valid v1.12 1 0\nvalid v1.9 1 0\n"));
+    assert!(rt; tells(&rt, &mut folder, b"valid v1.12 1 0\nvalid v1.9 1 0\n")?);
     let words = ["--prune", "--limit", "0", "--workers", "2"];
-    let again = run_in(&rt, &mut folder, &words, b"")?;
-    assert!(rt; again.ended(0, b"pruned 0\n"));
-    let mut fresh = fresh_folder(rt.alloc());
-    let none = run_in(&rt, &mut fresh, &["--prune"], b"")?;
-    assert!(rt; none.ended(0, b"pruned 0\n"));
+    assert!(rt; writes(&rt, &mut folder, &words, b"", b"pruned 0\n")?);
+    Ok(())
+}
+
+#[test]
+fn a_prune_of_no_generations_removes_none(rt: HostRuntime) -> Result<(), Fail> {
+    let mut folder = fresh_folder(rt.alloc());
+    assert!(rt; writes(&rt, &mut folder, &["--prune"], b"", b"pruned 0\n")?);
     Ok(())
 }
 
@@ -289,14 +315,18 @@ fn a_fault_leaves_what_is_not_removed_yet(rt: HostRuntime) -> Result<(), Fail> {
     ];
     for (call, left) in cases {
         let mut folder = folder_with(&rt, &[call], &[])?;
-        let ran = run_in(&rt, &mut folder, &["--prune"], b"")?;
-        assert_eq!(rt; (ran.status, ran.answer), (5, Answer::FolderFault));
-        assert_eq!(rt; ran.sink.written().len(), 0);
+        let end = end_in(&rt, &mut folder, &["--prune"], b"")?;
+        assert_eq!(rt; end, nothing(5, Answer::FolderFault));
         assert_eq!(rt; unused_in(&folder), left);
     }
+    Ok(())
+}
+
+#[test]
+fn a_held_folder_is_not_pruned(rt: HostRuntime) -> Result<(), Fail> {
     let mut held = folder_with(&rt, &[], &[2])?;
-    let ran = run_in(&rt, &mut held, &["--prune"], b"")?;
-    assert_eq!(rt; (ran.status, ran.answer), (11, Answer::Held));
+    let end = end_in(&rt, &mut held, &["--prune"], b"")?;
+    assert_eq!(rt; end, nothing(11, Answer::Held));
     assert_eq!(rt; unused_in(&held), [true, true, true]);
     Ok(())
 }

@@ -26,10 +26,36 @@ pub struct Ran {
     pub sink: MemSink,
 }
 
+/// How a run ended, and how many bytes it wrote.
+#[derive(Clone, Copy, Debug, PartialEq, Eq)]
+pub struct End {
+    pub status: u8,
+    pub answer: Answer,
+    pub written: usize,
+}
+
+/// The end of a run that wrote nothing.
+pub fn nothing(status: u8, answer: Answer) -> End {
+    End {
+        status,
+        answer,
+        written: 0,
+    }
+}
+
 impl Ran {
-    /// Whether the run ended with this status and wrote just this.
-    pub fn ended(&self, status: u8, text: &[u8]) -> bool {
-        self.status == status && self.sink.written() == text
+    /// Whether all was done, and the run wrote just this.
+    pub fn wrote(&self, text: &[u8]) -> bool {
+        self.status == 0 && self.answer == Answer::Done && self.sink.written() == text
+    }
+
+    /// How the run ended, and how many bytes it wrote.
+    pub fn end(&self) -> End {
+        End {
+            status: self.status,
+            answer: self.answer,
+            written: self.sink.written().len(),
+        }
     }
 }
 
@@ -60,7 +86,44 @@ pub fn run_in(
     run_failing(rt, folder, words, bytes, &[], &[])
 }
 
-/// The same, with the calls of source and sink that fail.
+/// Whether such a run does all and writes just this.
+pub fn writes(
+    rt: &HostRuntime,
+    folder: &mut MemFolder,
+    words: &[&str],
+    bytes: &[u8],
+    text: &[u8],
+) -> Result<bool, Fail>
+    requires { folder.old.asked ≡ None }
+    ensures { folder.new.asked ≡ None }
+{
+    let ran = run_in(rt, folder, words, bytes)?;
+    Ok(ran.wrote(text))
+}
+
+/// How such a run ends.
+pub fn end_in(
+    rt: &HostRuntime,
+    folder: &mut MemFolder,
+    words: &[&str],
+    bytes: &[u8],
+) -> Result<End, Fail>
+    requires { folder.old.asked ≡ None }
+    ensures { folder.new.asked ≡ None }
+{
+    let ran = run_in(rt, folder, words, bytes)?;
+    Ok(ran.end())
+}
+
+/// Whether a check of the folder's images tells just this.
+pub fn tells(rt: &HostRuntime, folder: &mut MemFolder, lines: &[u8]) -> Result<bool, Fail>
+    requires { folder.old.asked ≡ None }
+    ensures { folder.new.asked ≡ None }
+{
+    writes(rt, folder, &["--validate"], b"", lines)
+}
+
+/// The same as `run_in`, with the calls of source and sink that fail.
 pub fn run_failing(
     rt: &HostRuntime,
     folder: &mut MemFolder,

@@ -1,7 +1,7 @@
 // Runs over sources and sinks in memory: the worked answers, with ids that another implementation of SHA-256 computed.
 use crate::answer::{Answer, Large, answer_text};
 use crate::run::cas_run;
-use crate::testing::{EMPTY, HELLO, Ran, ZERO, fresh_folder};
+use crate::testing::{EMPTY, End, HELLO, Ran, ZERO, fresh_folder, nothing};
 use cas_model::{Digest, Full, Id, IdError};
 use cas_outside::{MemSink, MemSource, NoGate};
 use command_line::UsageKind;
@@ -12,11 +12,8 @@ use std::test::Fail;
 
 const ABSENT: Digest = Digest { bytes: [0; 32] };
 
-const LARGEST: &str =
-    "llvmcas://9c7b2683eab546699ecf72b99333ff169605686b5de0f6c33e4c2a4521323965\n";
-
 // Runs these words in a fresh folder, on a source of these bytes, with the calls of source and sink that fail.
-fn run_words(
+fn run_failing(
     rt: &HostRuntime,
     words: &[&str],
     bytes: Vec<u8>,
@@ -38,57 +35,41 @@ fn run_words(
     })
 }
 
-// So many letters `a`.
-fn letters(rt: &HostRuntime, count: usize) -> Result<Vec<u8>, Fail> {
-    Ok(vec![in rt.alloc(); b'a'; count]?)
+// How these words end in a fresh folder, on a source of these bytes.
+fn end_of(rt: &HostRuntime, words: &[&str], bytes: &[u8]) -> Result<End, Fail> {
+    let bytes = bytes.to_vec(rt.alloc())?;
+    Ok(run_failing(rt, words, bytes, &[], &[])?.end())
 }
+
+// Whether these words do all in a fresh folder, on a source of these bytes, and write just this.
+fn writes(rt: &HostRuntime, words: &[&str], bytes: &[u8], text: &[u8]) -> Result<bool, Fail> {
+    let bytes = bytes.to_vec(rt.alloc())?;
+    Ok(run_failing(rt, words, bytes, &[], &[])?.wrote(text))
+}
+
+const MAKE_BLOB: [&str; 3] = ["--cas", "c", "--make-blob"];
 
 #[test]
 fn a_blob_becomes_its_id(rt: HostRuntime) -> Result<(), Fail> {
-    let words = ["--cas", "c", "--make-blob"];
-    let empty = run_words(&rt, &words, Vec::new(rt.alloc()), &[], &[])?;
-    assert_eq!(rt; (empty.status, empty.answer), (0, Answer::Done));
-    assert_eq!(rt; empty.sink.written(), EMPTY.as_bytes());
+    assert!(rt; writes(&rt, &MAKE_BLOB, b"", EMPTY.as_bytes())?);
     for _ in 0..2 {
-        let hello = run_words(&rt, &words, b"hello".to_vec(rt.alloc())?, &[], &[])?;
-        assert_eq!(rt; (hello.status, hello.answer), (0, Answer::Done));
-        assert_eq!(rt; hello.sink.written(), HELLO.as_bytes());
+        assert!(rt; writes(&rt, &MAKE_BLOB, b"hello", HELLO.as_bytes())?);
     }
-    Ok(())
-}
-
-#[test]
-fn the_largest_blob_and_one_byte_more(rt: HostRuntime) -> Result<(), Fail> {
-    let words = ["--cas", "c", "--make-blob"];
-    let largest = run_words(&rt, &words, letters(&rt, 16_777_215)?, &[], &[])?;
-    assert_eq!(rt; (largest.status, largest.answer), (0, Answer::Done));
-    assert_eq!(rt; largest.sink.written(), LARGEST.as_bytes());
-    let large = Answer::TooLarge {
-        what: Large::Data,
-        number: 16_777_216,
-    };
-    let more = run_words(&rt, &words, letters(&rt, 16_777_216)?, &[], &[])?;
-    assert_eq!(rt; (more.status, more.answer), (12, large));
-    assert_eq!(rt; more.sink.written().len(), 0);
+    let words = ["--cas", "c", "--make-node"];
+    assert!(rt; writes(&rt, &words, b"hello", HELLO.as_bytes())?);
     Ok(())
 }
 
 #[test]
 fn faults_have_their_answers(rt: HostRuntime) -> Result<(), Fail> {
-    let words = ["--cas", "c", "--make-blob"];
     let hello = || b"hello".to_vec(rt.alloc());
     for call in 1..3 {
-        let unread = run_words(&rt, &words, hello()?, &[call], &[])?;
-        assert_eq!(rt; (unread.status, unread.answer), (3, Answer::ReadFault));
-        assert_eq!(rt; unread.sink.written().len(), 0);
+        let end = run_failing(&rt, &MAKE_BLOB, hello()?, &[call], &[])?.end();
+        assert_eq!(rt; end, nothing(3, Answer::ReadFault));
     }
-    let unwritten = run_words(&rt, &words, hello()?, &[], &[1])?;
-    assert_eq!(rt;
-        (unwritten.status, unwritten.answer),
-        (4, Answer::WriteFault)
-    );
-    assert_eq!(rt; unwritten.sink.written().len(), 0);
-    let cut = run_words(&rt, &words, hello()?, &[], &[3])?;
+    let end = run_failing(&rt, &MAKE_BLOB, hello()?, &[], &[1])?.end();
+    assert_eq!(rt; end, nothing(4, Answer::WriteFault));
+    let cut = run_failing(&rt, &MAKE_BLOB, hello()?, &[], &[3])?;
     assert_eq!(rt; (cut.status, cut.answer), (4, Answer::WriteFault));
     assert_eq!(rt; cut.sink.written(), b"llvmcas://e497".as_slice());
     Ok(())
@@ -109,24 +90,22 @@ fn other_words_are_refused(rt: HostRuntime) -> Result<(), Fail> {
         ),
     ];
     for (words, kind) in cases {
-        let refused = run_words(&rt, words, b"hello".to_vec(rt.alloc())?, &[], &[])?;
-        assert_eq!(rt; (refused.status, refused.answer), (2, Answer::Usage(kind)));
-        assert_eq!(rt; refused.sink.written().len(), 0);
+        let end = end_of(&rt, words, b"hello")?;
+        assert_eq!(rt; end, nothing(2, Answer::Usage(kind)));
     }
     Ok(())
 }
 
 #[test]
 fn a_workload_is_summed_up(rt: HostRuntime) -> Result<(), Fail> {
+    // The source is not read: its first call would fail.
     let words = ["--cas", "c", "--workload", "1", "--workers", "1"];
-    let ran = run_words(&rt, &words, Vec::new(rt.alloc()), &[1], &[])?;
-    assert_eq!(rt; (ran.status, ran.answer), (0, Answer::Done));
+    let ran = run_failing(&rt, &words, Vec::new(rt.alloc()), &[1], &[])?;
     let want = "workload 1: sessions 8, lines 40, full 0, objects 7, actions 3\n";
-    assert_eq!(rt; ran.sink.written(), want.as_bytes());
+    assert!(rt; ran.wrote(want.as_bytes()));
     let words = ["--cas", "c", "--validate"];
-    let ran = run_words(&rt, &words, Vec::new(rt.alloc()), &[1], &[])?;
-    assert_eq!(rt; (ran.status, ran.answer), (0, Answer::Done));
-    assert_eq!(rt; ran.sink.written().len(), 0);
+    let ran = run_failing(&rt, &words, Vec::new(rt.alloc()), &[1], &[])?;
+    assert!(rt; ran.wrote(b""));
     Ok(())
 }
 
@@ -182,9 +161,8 @@ fn an_empty_store_has_nothing(rt: HostRuntime) -> Result<(), Fail> {
         for word in command {
             words.push(*word)?;
         }
-        let ran = run_words(&rt, &words, b"x".to_vec(rt.alloc())?, &[], &[])?;
-        assert_eq!(rt; (ran.status, ran.answer), (status, answer));
-        assert_eq!(rt; ran.sink.written().len(), 0);
+        let end = end_of(&rt, &words, b"x")?;
+        assert_eq!(rt; end, nothing(status, answer));
     }
     let text = answer_text(rt.alloc(), &Answer::Missing(abc))?;
     let wanted =
@@ -193,22 +171,11 @@ fn an_empty_store_has_nothing(rt: HostRuntime) -> Result<(), Fail> {
     Ok(())
 }
 
-#[test]
-fn a_node_without_references_is_a_blob(rt: HostRuntime) -> Result<(), Fail> {
-    let words = ["--cas", "c", "--make-node"];
-    let hello = run_words(&rt, &words, b"hello".to_vec(rt.alloc())?, &[], &[])?;
-    assert_eq!(rt; (hello.status, hello.answer), (0, Answer::Done));
-    assert_eq!(rt; hello.sink.written(), HELLO.as_bytes());
-    Ok(())
-}
-
 const BATCH: [&str; 3] = ["--cas", "c", "--batch"];
 
 #[test]
 fn a_batch_writes_the_replies_of_its_sessions(rt: HostRuntime) -> Result<(), Fail> {
     let script = "session\nstore -\nstore - %1 %1 %1\nload %2\n";
-    let ran = run_words(&rt, &BATCH, script.as_bytes().to_vec(rt.alloc())?, &[], &[])?;
-    assert_eq!(rt; (ran.status, ran.answer), (0, Answer::Done));
     let empty = EMPTY.trim_end();
     let node = Id {
         digest: three_of(Digest::of(&[], &[])),
@@ -217,7 +184,7 @@ fn a_batch_writes_the_replies_of_its_sessions(rt: HostRuntime) -> Result<(), Fai
     wanted.extend_from_slice(node.text(rt.alloc())?.as_slice())?;
     let found = format!(in rt.alloc(); "\n0.3 found - {empty} {empty} {empty}\n")?;
     wanted.extend_from_slice(found.as_bytes())?;
-    assert_eq!(rt; ran.sink.written(), wanted.as_slice());
+    assert!(rt; writes(&rt, &BATCH, script.as_bytes(), &wanted)?);
     Ok(())
 }
 
@@ -232,8 +199,6 @@ fn sessions_run_in_turn(rt: HostRuntime) -> Result<(), Fail> {
     let script = format!(in rt.alloc();
         "session\nstore t:x\nload {x}\nsession\nget action:k\nput action:k {x}"
     )?;
-    let ran = run_words(&rt, &BATCH, script.into_bytes(), &[], &[])?;
-    assert_eq!(rt; (ran.status, ran.answer), (0, Answer::Done));
     let mut stored = b"0.1 stored ".to_vec(rt.alloc())?;
     let id = Id {
         digest: Digest::of(&[], b"x"),
@@ -241,7 +206,7 @@ fn sessions_run_in_turn(rt: HostRuntime) -> Result<(), Fail> {
     stored.extend_from_slice(id.text(rt.alloc())?.as_slice())?;
     let rest = format!(in rt.alloc(); "\n0.2 missing\n1.1 miss\n1.2 dangling 0 {x}\n")?;
     stored.extend_from_slice(rest.as_bytes())?;
-    assert_eq!(rt; ran.sink.written(), stored.as_slice());
+    assert!(rt; writes(&rt, &BATCH, script.as_bytes(), &stored)?);
     Ok(())
 }
 
@@ -260,22 +225,30 @@ fn a_script_is_read_or_refused(rt: HostRuntime) -> Result<(), Fail> {
         ("session\n\nkeep t:a", 10, bad(3, LineKind::BadVerb)),
     ];
     for (script, status, answer) in cases {
-        let ran = run_words(&rt, &BATCH, script.as_bytes().to_vec(rt.alloc())?, &[], &[])?;
-        assert_eq!(rt; (ran.status, ran.answer), (status, answer));
-        assert_eq!(rt; ran.sink.written().len(), 0);
+        let end = end_of(&rt, &BATCH, script.as_bytes())?;
+        assert_eq!(rt; end, nothing(status, answer));
     }
-    let most = vec![in rt.alloc(); b'#'; SCRIPT_BYTES]?;
-    let ran = run_words(&rt, &BATCH, most, &[], &[])?;
-    assert_eq!(rt; (ran.status, ran.answer), (0, Answer::Done));
-    let more = vec![in rt.alloc(); b'#'; SCRIPT_BYTES + 1]?;
+    let unread = run_failing(&rt, &BATCH, b"session".to_vec(rt.alloc())?, &[1], &[])?;
+    assert_eq!(rt; unread.end(), nothing(3, Answer::ReadFault));
+    Ok(())
+}
+
+// How a batch ends whose script is a comment of so many bytes.
+fn end_of_comment(rt: &HostRuntime, count: usize) -> Result<End, Fail> {
+    let script = vec![in rt.alloc(); b'#'; count]?;
+    Ok(run_failing(rt, &BATCH, script, &[], &[])?.end())
+}
+
+#[test]
+fn a_script_has_at_most_16_mib(rt: HostRuntime) -> Result<(), Fail> {
+    let most = end_of_comment(&rt, SCRIPT_BYTES)?;
+    assert_eq!(rt; most, nothing(0, Answer::Done));
     let large = Answer::TooLarge {
         what: Large::Script,
         number: 16_777_217,
     };
-    let ran = run_words(&rt, &BATCH, more, &[], &[])?;
-    assert_eq!(rt; (ran.status, ran.answer), (12, large));
-    let unread = run_words(&rt, &BATCH, b"session".to_vec(rt.alloc())?, &[1], &[])?;
-    assert_eq!(rt; (unread.status, unread.answer), (3, Answer::ReadFault));
+    let more = end_of_comment(&rt, SCRIPT_BYTES + 1)?;
+    assert_eq!(rt; more, nothing(12, large));
     Ok(())
 }
 

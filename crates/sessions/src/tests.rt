@@ -117,66 +117,57 @@ fn repeated_refusal(
 // The digests of `-`, `t:hello`, `action:` and `action:abc` begin with 374708ff, e49773b3, e3b0c442 and ba7816bf.
 #[test]
 fn texts_are_read_line_by_line(rt: HostRuntime) -> Result<(), Fail> {
-    let cases: [(&[u8], &str); 16] = [
+    let cases: [(&str, &str); 16] = [
         // No text, and lines that say nothing.
-        (b"".as_slice(), ""),
-        (b"\n\n# comment\n".as_slice(), ""),
+        ("", ""),
+        ("\n\n# comment\n", ""),
         // A last line without an end, and two ends.
-        (b"session".as_slice(), "[ ] "),
-        (b"session\n\n".as_slice(), "[ ] "),
-        (b"session\nsession\n".as_slice(), "[ ] [ ] "),
-        (
-            b"session\nstore t:hello".as_slice(),
-            "[ store 68656c6c6f / ] ",
-        ),
+        ("session", "[ ] "),
+        ("session\n\n", "[ ] "),
+        ("session\nsession\n", "[ ] [ ] "),
+        ("session\nstore t:hello", "[ store 68656c6c6f / ] "),
         // The forms of data, which may be empty or hold any byte but a space and an end of line.
         (
-            b"session\nstore -\nstore t:\nstore x:\n".as_slice(),
+            "session\nstore -\nstore t:\nstore x:\n",
             "[ store  / store  / store  / ] ",
         ),
+        ("session\nstore x:68656C6c6F\n", "[ store 68656c6c6f / ] "),
         (
-            b"session\nstore x:68656C6c6F\n".as_slice(),
-            "[ store 68656c6c6f / ] ",
-        ),
-        (
-            b"session\nstore t:\0\r\xff#%-\n".as_slice(),
-            "[ store 000dff23252d / ] ",
+            "session\nstore t:\0\r\u{ff}#%-\n",
+            "[ store 000dc3bf23252d / ] ",
         ),
         // The forms of keys.
         (
-            b"session\nget action:\nget action:abc\n".as_slice(),
+            "session\nget action:\nget action:abc\n",
             "[ get e3b0c442 / get ba7816bf / ] ",
         ),
+        ("session\nstore -\nget %1\n", "[ store  / get 374708ff / ] "),
         (
-            b"session\nstore -\nget %1\n".as_slice(),
-            "[ store  / get 374708ff / ] ",
-        ),
-        (
-            b"session\nload llvmcas://E49773B3DDAE167D5FD8E83F8D02FB7525C54E8127A14767C0EDBE206315B669\n".as_slice(),
+            "session\nload llvmcas://E49773B3DDAE167D5FD8E83F8D02FB7525C54E8127A14767C0EDBE206315B669\n",
             "[ load e49773b3 / ] ",
         ),
         // Numbers of lines count neither comments nor empty lines, and begin anew in each session.
         (
-            b"# first\nsession\nstore -\n\n# more\nstore t:hello\nload %2\nput %1 %2\nsession\nstore t:hello\nload %1\n".as_slice(),
+            "# first\nsession\nstore -\n\n# more\nstore t:hello\nload %2\nput %1 %2\nsession\nstore t:hello\nload %1\n",
             "[ store  / store 68656c6c6f / load e49773b3 / put 374708ff e49773b3 / ] [ store 68656c6c6f / load e49773b3 / ] ",
         ),
         // An object keeps its references in order, each as often as it stands there.
         (
-            b"session\nstore -\nstore t:hello\nstore - %2 %1 %2\n".as_slice(),
+            "session\nstore -\nstore t:hello\nstore - %2 %1 %2\n",
             "[ store  / store 68656c6c6f / store  e49773b3 374708ff e49773b3 / ] ",
         ),
         // An action stores its object, under a name of its own.
         (
-            b"session\nact action:abc t:hello\nload %1\n".as_slice(),
+            "session\nact action:abc t:hello\nload %1\n",
             "[ act ba7816bf 68656c6c6f / load e49773b3 / ] ",
         ),
         (
-            b"session\nact action:abc -\nact %1 t:hello %1 %1\n".as_slice(),
+            "session\nact action:abc -\nact %1 t:hello %1 %1\n",
             "[ act ba7816bf  / act 374708ff 68656c6c6f 374708ff 374708ff / ] ",
         ),
     ];
     for (text, want) in &cases {
-        let is = read(rt.alloc(), *text)?;
+        let is = read(rt.alloc(), text.as_bytes())?;
         assert_eq!(rt; is.as_str(), *want, "at {text:?}");
     }
     Ok(())
@@ -184,108 +175,84 @@ fn texts_are_read_line_by_line(rt: HostRuntime) -> Result<(), Fail> {
 
 #[test]
 fn lines_are_refused_for_their_first_reason(rt: HostRuntime) {
-    let cases: [(&[u8], u32, LineKind); 60] = [
+    let cases: [(&str, u32, LineKind); 60] = [
         // Each refusal once.
-        (b"session\nbogus\n".as_slice(), 2, BadVerb),
-        (b"session\nload\n".as_slice(), 2, BadArguments),
-        (b"session\nload llvmcas://12\n".as_slice(), 2, BadId),
-        (b"session\nstore hello\n".as_slice(), 2, BadData),
-        (b"session\nstore t:a\nload %2\n".as_slice(), 3, BadReference),
-        (b"store t:a\n".as_slice(), 1, NoSession),
+        ("session\nbogus\n", 2, BadVerb),
+        ("session\nload\n", 2, BadArguments),
+        ("session\nload llvmcas://12\n", 2, BadId),
+        ("session\nstore hello\n", 2, BadData),
+        ("session\nstore t:a\nload %2\n", 3, BadReference),
+        ("store t:a\n", 1, NoSession),
         // Words are whole tokens, and their case counts.
-        (b"Session\n".as_slice(), 1, BadVerb),
-        (b"sessions\n".as_slice(), 1, BadVerb),
-        (b" session\n".as_slice(), 1, BadVerb),
-        (b"session\r\n".as_slice(), 1, BadVerb),
-        (b"\0\n".as_slice(), 1, BadVerb),
-        (b" # comment\n".as_slice(), 1, BadVerb),
+        ("Session\n", 1, BadVerb),
+        ("sessions\n", 1, BadVerb),
+        (" session\n", 1, BadVerb),
+        ("session\r\n", 1, BadVerb),
+        ("\0\n", 1, BadVerb),
+        (" # comment\n", 1, BadVerb),
         // The word comes before the place, the place before the number of tokens, and that before the arguments.
-        (b"bogus\nsession\n".as_slice(), 1, BadVerb),
-        (b"load a b c\nsession\n".as_slice(), 1, NoSession),
-        (b"session\nload bad bad\n".as_slice(), 2, BadArguments),
-        (b"session\nput bad\n".as_slice(), 2, BadArguments),
-        (b"session now\n".as_slice(), 1, BadArguments),
-        (b"session \n".as_slice(), 1, BadArguments),
-        (b"session\nstore\n".as_slice(), 2, BadArguments),
-        (b"session\nget\n".as_slice(), 2, BadArguments),
-        (b"session\nget a b\n".as_slice(), 2, BadArguments),
-        (b"session\nput a b c\n".as_slice(), 2, BadArguments),
-        (b"session\nact action:k\n".as_slice(), 2, BadArguments),
+        ("bogus\nsession\n", 1, BadVerb),
+        ("load a b c\nsession\n", 1, NoSession),
+        ("session\nload bad bad\n", 2, BadArguments),
+        ("session\nput bad\n", 2, BadArguments),
+        ("session now\n", 1, BadArguments),
+        ("session \n", 1, BadArguments),
+        ("session\nstore\n", 2, BadArguments),
+        ("session\nget\n", 2, BadArguments),
+        ("session\nget a b\n", 2, BadArguments),
+        ("session\nput a b c\n", 2, BadArguments),
+        ("session\nact action:k\n", 2, BadArguments),
         // Arguments from left to right.
-        (b"session\nput bad %1\n".as_slice(), 2, BadId),
-        (b"session\nput %1 bad\n".as_slice(), 2, BadReference),
-        (b"session\nact bad bad %1\n".as_slice(), 2, BadId),
-        (b"session\nact %9 bad bad\n".as_slice(), 2, BadReference),
-        (b"session\nact action:k bad %1\n".as_slice(), 2, BadData),
-        (
-            b"session\nact action:k - %1 bad\n".as_slice(),
-            2,
-            BadReference,
-        ),
-        (b"session\nstore bad %1\n".as_slice(), 2, BadData),
-        (b"session\nstore - bad %1\n".as_slice(), 2, BadId),
-        (b"session\nstore - %1 bad\n".as_slice(), 2, BadReference),
+        ("session\nput bad %1\n", 2, BadId),
+        ("session\nput %1 bad\n", 2, BadReference),
+        ("session\nact bad bad %1\n", 2, BadId),
+        ("session\nact %9 bad bad\n", 2, BadReference),
+        ("session\nact action:k bad %1\n", 2, BadData),
+        ("session\nact action:k - %1 bad\n", 2, BadReference),
+        ("session\nstore bad %1\n", 2, BadData),
+        ("session\nstore - bad %1\n", 2, BadId),
+        ("session\nstore - %1 bad\n", 2, BadReference),
         // Two spaces and a space at the end make an empty token.
-        (b"session\nload  %1\n".as_slice(), 2, BadArguments),
-        (b"session\nget action:k \n".as_slice(), 2, BadArguments),
-        (b"session\nstore  t:a\n".as_slice(), 2, BadData),
-        (b"session\nstore t:a \n".as_slice(), 2, BadId),
-        (b"session\nstore t:a  %1\n".as_slice(), 2, BadId),
-        (b"session\nput  action:k\n".as_slice(), 2, BadId),
+        ("session\nload  %1\n", 2, BadArguments),
+        ("session\nget action:k \n", 2, BadArguments),
+        ("session\nstore  t:a\n", 2, BadData),
+        ("session\nstore t:a \n", 2, BadId),
+        ("session\nstore t:a  %1\n", 2, BadId),
+        ("session\nput  action:k\n", 2, BadId),
         // Numbers of lines.
-        (b"session\nstore -\nload %\n".as_slice(), 3, BadId),
-        (b"session\nstore -\nload %0\n".as_slice(), 3, BadId),
-        (b"session\nstore -\nload %01\n".as_slice(), 3, BadId),
-        (b"session\nstore -\nload %00001\n".as_slice(), 3, BadId),
-        (b"session\nstore -\nload %100000\n".as_slice(), 3, BadId),
-        (b"session\nstore -\nload %+1\n".as_slice(), 3, BadId),
-        (b"session\nstore -\nload %1a\n".as_slice(), 3, BadId),
-        (b"session\nstore -\nload %1\r\n".as_slice(), 3, BadId),
-        (
-            b"session\nstore -\nload %99999\n".as_slice(),
-            3,
-            BadReference,
-        ),
-        (b"session\nstore - %1\n".as_slice(), 2, BadReference),
-        (b"session\nact action:k - %1\n".as_slice(), 2, BadReference),
+        ("session\nstore -\nload %\n", 3, BadId),
+        ("session\nstore -\nload %0\n", 3, BadId),
+        ("session\nstore -\nload %01\n", 3, BadId),
+        ("session\nstore -\nload %00001\n", 3, BadId),
+        ("session\nstore -\nload %100000\n", 3, BadId),
+        ("session\nstore -\nload %+1\n", 3, BadId),
+        ("session\nstore -\nload %1a\n", 3, BadId),
+        ("session\nstore -\nload %1\r\n", 3, BadId),
+        ("session\nstore -\nload %99999\n", 3, BadReference),
+        ("session\nstore - %1\n", 2, BadReference),
+        ("session\nact action:k - %1\n", 2, BadReference),
         // A line that stores nothing, and lines of another session.
+        ("session\nstore -\nload %1\nload %2\n", 4, BadReference),
+        ("session\nget action:k\nload %1\n", 3, BadReference),
         (
-            b"session\nstore -\nload %1\nload %2\n".as_slice(),
+            "session\nstore -\nput action:k %1\nload %2\n",
             4,
             BadReference,
         ),
-        (
-            b"session\nget action:k\nload %1\n".as_slice(),
-            3,
-            BadReference,
-        ),
-        (
-            b"session\nstore -\nput action:k %1\nload %2\n".as_slice(),
-            4,
-            BadReference,
-        ),
-        (
-            b"session\nstore -\nsession\nload %1\n".as_slice(),
-            4,
-            BadReference,
-        ),
+        ("session\nstore -\nsession\nload %1\n", 4, BadReference),
         // The forms of keys, ids and data.
-        (b"session\nload action:k\n".as_slice(), 2, BadId),
-        (b"session\nget Action:k\n".as_slice(), 2, BadId),
-        (b"session\nget action\n".as_slice(), 2, BadId),
-        (b"session\nstore x:abc\n".as_slice(), 2, BadData),
-        (b"session\nstore x:0g\n".as_slice(), 2, BadData),
-        (b"session\nstore -a\n".as_slice(), 2, BadData),
+        ("session\nload action:k\n", 2, BadId),
+        ("session\nget Action:k\n", 2, BadId),
+        ("session\nget action\n", 2, BadId),
+        ("session\nstore x:abc\n", 2, BadData),
+        ("session\nstore x:0g\n", 2, BadData),
+        ("session\nstore -a\n", 2, BadData),
         // All lines count in a line's number.
-        (
-            b"# one\n\nsession\n# four\n\nload %1".as_slice(),
-            6,
-            BadReference,
-        ),
+        ("# one\n\nsession\n# four\n\nload %1", 6, BadReference),
     ];
     for (text, number, kind) in &cases {
         assert_eq!(rt;
-            refusal(rt.alloc(), *text),
+            refusal(rt.alloc(), text.as_bytes()),
             Some(ScriptError::Line(*number, *kind)),
             "at {text:?}"
         );
@@ -295,27 +262,15 @@ fn lines_are_refused_for_their_first_reason(rt: HostRuntime) {
 // What follows 64 sessions.
 #[test]
 fn sessions_are_64_at_most(rt: HostRuntime) -> Result<(), Fail> {
-    let cases: [(&[u8], Option<ScriptError>); 5] = [
-        (b"".as_slice(), None),
-        (
-            b"session\n".as_slice(),
-            Some(ScriptError::Line(65, TooManySessions)),
-        ),
-        (
-            b"session now".as_slice(),
-            Some(ScriptError::Line(65, TooManySessions)),
-        ),
-        (
-            b"bogus now".as_slice(),
-            Some(ScriptError::Line(65, BadVerb)),
-        ),
-        (
-            b"load now %1".as_slice(),
-            Some(ScriptError::Line(65, BadArguments)),
-        ),
+    let cases: [(&str, Option<ScriptError>); 5] = [
+        ("", None),
+        ("session\n", Some(ScriptError::Line(65, TooManySessions))),
+        ("session now", Some(ScriptError::Line(65, TooManySessions))),
+        ("bogus now", Some(ScriptError::Line(65, BadVerb))),
+        ("load now %1", Some(ScriptError::Line(65, BadArguments))),
     ];
     for (end, want) in &cases {
-        let is = repeated_refusal(rt.alloc(), b"", b"session\n", 64, *end)?;
+        let is = repeated_refusal(rt.alloc(), b"", b"session\n", 64, end.as_bytes())?;
         assert_eq!(rt; is, *want, "at {end:?}");
     }
     Ok(())
@@ -324,17 +279,14 @@ fn sessions_are_64_at_most(rt: HostRuntime) -> Result<(), Fail> {
 // What follows 65,536 lines of a session.
 #[test]
 fn lines_are_65536_at_most(rt: HostRuntime) -> Result<(), Fail> {
-    let cases: [(&[u8], Option<ScriptError>); 4] = [
-        (b"".as_slice(), None),
+    let cases: [(&str, Option<ScriptError>); 4] = [
+        ("", None),
+        ("load", Some(ScriptError::Line(65_538, TooManyLines))),
         (
-            b"load".as_slice(),
-            Some(ScriptError::Line(65_538, TooManyLines)),
-        ),
-        (
-            b"\n# comment\nload %1\n".as_slice(),
+            "\n# comment\nload %1\n",
             Some(ScriptError::Line(65_540, TooManyLines)),
         ),
-        (b"session\nstore -\nload %1\n".as_slice(), None),
+        ("session\nstore -\nload %1\n", None),
     ];
     for (end, want) in &cases {
         let is = repeated_refusal(
@@ -342,7 +294,7 @@ fn lines_are_65536_at_most(rt: HostRuntime) -> Result<(), Fail> {
             b"session\nstore -\n",
             b"load %1\n",
             65_535,
-            *end,
+            end.as_bytes(),
         )?;
         assert_eq!(rt; is, *want, "at {end:?}");
     }
@@ -352,11 +304,11 @@ fn lines_are_65536_at_most(rt: HostRuntime) -> Result<(), Fail> {
 // What follows 65,535 references.
 #[test]
 fn references_are_65535_at_most(rt: HostRuntime) -> Result<(), Fail> {
-    let cases: [(&[u8], Option<ScriptError>); 4] = [
-        (b"".as_slice(), None),
-        (b"\nload %2".as_slice(), None),
-        (b" %1".as_slice(), Some(ScriptError::Line(3, TooManyRefs))),
-        (b" bad".as_slice(), Some(ScriptError::Line(3, TooManyRefs))),
+    let cases: [(&str, Option<ScriptError>); 4] = [
+        ("", None),
+        ("\nload %2", None),
+        (" %1", Some(ScriptError::Line(3, TooManyRefs))),
+        (" bad", Some(ScriptError::Line(3, TooManyRefs))),
     ];
     for (end, want) in &cases {
         let is = repeated_refusal(
@@ -364,7 +316,7 @@ fn references_are_65535_at_most(rt: HostRuntime) -> Result<(), Fail> {
             b"session\nstore -\nstore t:a",
             b" %1",
             65_535,
-            *end,
+            end.as_bytes(),
         )?;
         assert_eq!(rt; is, *want, "at {end:?}");
     }
@@ -377,17 +329,13 @@ fn references_are_65535_at_most(rt: HostRuntime) -> Result<(), Fail> {
 #[test]
 fn texts_have_16777216_bytes_at_most(rt: HostRuntime) -> Result<(), Fail> {
     let line = b"# a line of 64 bytes, with its end, that says nothing at all...\n";
-    let cases: [(&[u8], &[u8], Option<ScriptError>); 3] = [
-        (b"".as_slice(), b"".as_slice(), None),
-        (
-            b"bogus\n".as_slice(),
-            b"".as_slice(),
-            Some(ScriptError::TooLong),
-        ),
-        (b"".as_slice(), b"\n".as_slice(), Some(ScriptError::TooLong)),
+    let cases: [(&str, &str, Option<ScriptError>); 3] = [
+        ("", "", None),
+        ("bogus\n", "", Some(ScriptError::TooLong)),
+        ("", "\n", Some(ScriptError::TooLong)),
     ];
     for (front, end, want) in &cases {
-        let is = repeated_refusal(rt.alloc(), *front, line, 262_144, *end)?;
+        let is = repeated_refusal(rt.alloc(), front.as_bytes(), line, 262_144, end.as_bytes())?;
         assert_eq!(rt; is, *want, "at {front:?} and {end:?}");
     }
     Ok(())
