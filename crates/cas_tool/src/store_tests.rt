@@ -48,10 +48,10 @@ fn a_blob_is_saved_and_read_back(rt: HostRuntime) -> Result<(), Fail> {
 fn what_is_stored_is_not_saved_again(rt: HostRuntime) -> Result<(), Fail> {
     // The second run enters, locks, lists and reads, and its next call would fail.
     let mut folder = folder_failing(rt.alloc(), &[9])?;
-    for _ in 0..2 {
-        assert!(rt; makes(&rt, &mut folder, b"hello", HELLO)?);
-        assert_eq!(rt; length_of(&folder), Some(4_248));
-    }
+    assert!(rt; makes(&rt, &mut folder, b"hello", HELLO)?);
+    assert_eq!(rt; length_of(&folder), Some(4_248));
+    assert!(rt; makes(&rt, &mut folder, b"hello", HELLO)?);
+    assert_eq!(rt; length_of(&folder), Some(4_248));
     Ok(())
 }
 
@@ -245,15 +245,10 @@ fn the_folder_is_not_entered_where_the_input_fails(rt: HostRuntime) -> Result<()
 fn other_names_are_ignored(rt: HostRuntime) -> Result<(), Fail> {
     let mut folder = fresh_folder(rt.alloc());
     assert!(rt; makes(&rt, &mut folder, b"", EMPTY)?);
-    let names = [
-        b"v1.0".as_slice(),
-        b"v1.01".as_slice(),
-        b"v2".as_slice(),
-        b"notes".as_slice(),
-    ];
-    for name in names {
-        folder.set_file(name, b"any")?;
-    }
+    folder.set_file(b"v1.0", b"any")?;
+    folder.set_file(b"v1.01", b"any")?;
+    folder.set_file(b"v2", b"any")?;
+    folder.set_file(b"notes", b"any")?;
     assert!(rt; tells(&rt, &mut folder, b"valid v1.1 1 0\n")?);
     Ok(())
 }
