@@ -71,28 +71,47 @@ fn a_second_run_hits_what_the_first_made(rt: HostRuntime) -> Result<(), Fail> {
 fn sessions_make_each_step_once(rt: HostRuntime) -> Result<(), Fail> {
     let mut folder = fresh_folder(rt.alloc());
     let script = steps_script(rt.alloc())?;
-    run_in(&rt, &mut folder, &["--batch"], script.as_bytes())?;
+    run_steps(&rt, &mut folder, &script)?;
     assert!(rt; tells(&rt, &mut folder, b"valid v1.1 104 100\n")?);
     Ok(())
 }
 
-#[test]
-fn sixty_four_sessions_store_the_same(rt: HostRuntime) -> Result<(), Fail> {
-    let mut script = String::new(rt.alloc());
+// The script of 64 sessions that store the same 100 objects.
+fn objects_script(alloc: Global) -> Result<String, AllocError> {
+    let mut text = String::new(alloc);
     for _ in 0..64 {
-        script.push_str("session\n")?;
+        text.push_str("session\n")?;
         for number in 0_u32..100 {
-            script.push_str(format!(in rt.alloc(); "store t:obj-{number}\n")?.as_str())?;
+            text.push_str(format!(in alloc; "store t:obj-{number}\n")?.as_str())?;
         }
     }
+    Ok(text)
+}
+
+// How a run of this script with so many workers ends, and how many lines it tells of each kind.
+fn run_objects(
+    rt: &HostRuntime,
+    folder: &mut MemFolder,
+    workers: &str,
+    script: &str,
+) -> Result<(u8, [usize; 3]), Fail>
+    requires { folder.old.asked ≡ None }
+    ensures { folder.new.asked ≡ None }
+{
+    let words = ["--batch", "--workers", workers, "--size", "8388608"];
+    let ran = run_in(rt, folder, &words, script.as_bytes())?;
+    Ok((ran.status, told_in(ran.sink.written())))
+}
+
+#[test]
+fn sixty_four_sessions_store_the_same(rt: HostRuntime) -> Result<(), Fail> {
     let mut folder = fresh_folder(rt.alloc());
-    let words = ["--batch", "--workers", "64", "--size", "8388608"];
-    let ran = run_in(&rt, &mut folder, &words, script.as_bytes())?;
-    assert_eq!(rt;
-        (ran.status, told_in(ran.sink.written())),
-        (0, [6_400, 0, 0])
-    );
+    let script = objects_script(rt.alloc())?;
+    let one = run_objects(&rt, &mut folder, "1", &script)?;
+    assert_eq!(rt; one, (0, [6_400, 0, 0]));
     assert!(rt; tells(&rt, &mut folder, b"valid v1.1 100 0\n")?);
+    let many = run_objects(&rt, &mut folder, "64", &script)?;
+    assert_eq!(rt; many, (0, [6_400, 0, 0]));
     Ok(())
 }
 

@@ -55,12 +55,7 @@ fn what_is_used_is_brought_over_with_its_tree(rt: HostRuntime) -> Result<(), Fai
     let words = ["--get-cache-result", "action:root"];
     assert!(rt; writes(&rt, &mut folder, &words, b"", ROOT.as_bytes())?);
     assert!(rt; tells(&rt, &mut folder, b"valid v1.2 1000 1\nvalid v1.1 1001 2\n")?);
-    Ok(())
-}
-
-#[test]
-fn what_is_not_used_falls_away(rt: HostRuntime) -> Result<(), Fail> {
-    let mut folder = folder_with_spine(&rt)?;
+    // The state does not change now, and the limit alone makes a generation.
     let words = ["--get-cache-result", "--limit", "0", "action:root"];
     assert!(rt; writes(&rt, &mut folder, &words, b"", ROOT.as_bytes())?);
     assert!(rt; tells(&rt, &mut folder, b"valid v1.3 0 0\nvalid v1.2 1000 1\n")?);

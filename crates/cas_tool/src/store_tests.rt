@@ -61,9 +61,13 @@ fn nodes_refer_to_what_is_there(rt: HostRuntime) -> Result<(), Fail> {
     let empty = EMPTY.trim_end();
     assert!(rt; makes(&rt, &mut folder, b"", EMPTY)?);
     assert!(rt; makes(&rt, &mut folder, b"hello", HELLO)?);
-    let node = end_in(&rt, &mut folder, &["--make-node", empty], b"hello")?;
-    assert_eq!(rt; node.status, 0);
-    let saved = length_of(&folder);
+    let node = id_of(rt.alloc(), Digest::of(&[Digest::of(&[], b"")], b"hello"))?;
+    let line = format!(in rt.alloc(); "{node}\n")?;
+    assert!(rt; line.as_str() != HELLO);
+    let words = ["--make-node", empty];
+    assert!(rt; writes(&rt, &mut folder, &words, b"hello", line.as_bytes())?);
+    // Records of five words, and contents of one, two and three words.
+    assert_eq!(rt; length_of(&folder), Some(4_360));
     let dangling = Answer::Dangling {
         index: 1,
         digest: ABSENT,
@@ -73,7 +77,7 @@ fn nodes_refer_to_what_is_there(rt: HostRuntime) -> Result<(), Fail> {
         end_in(&rt, &mut folder, &words, b"x")?,
         nothing(9, dangling)
     );
-    assert_eq!(rt; length_of(&folder), saved);
+    assert_eq!(rt; length_of(&folder), Some(4_360));
     Ok(())
 }
 
@@ -131,6 +135,10 @@ fn a_key_keeps_its_first_value(rt: HostRuntime) -> Result<(), Fail> {
     assert_eq!(rt; put_in(&rt, &mut folder, a)?, kept);
     let poisoned = Answer::Poisoned { wanted: b, kept: a };
     assert_eq!(rt; put_in(&rt, &mut folder, b)?, nothing(8, poisoned));
+    let id = id_of(rt.alloc(), a)?;
+    let line = format!(in rt.alloc(); "{id}\n")?;
+    let words = ["--get-cache-result", "action:k"];
+    assert!(rt; writes(&rt, &mut folder, &words, b"", line.as_bytes())?);
     let dangling = Answer::Dangling {
         index: 0,
         digest: ABSENT,
@@ -171,29 +179,40 @@ fn image_with(rt: &HostRuntime, data: &[u8]) -> Result<Vec<u8>, Fail> {
 
 #[test]
 fn a_damaged_image_is_refused_by_name(rt: HostRuntime) -> Result<(), Fail> {
-    let image = image_with(&rt, b"hello")?;
-    assert_eq!(rt; image.len(), 4_248);
     let damaged = |error| nothing(6, Answer::Damaged { name: 1, error });
-    assert_eq!(rt;
-        refusal_of(&rt, &image, 4_247)?,
-        damaged(ImageError::Ragged)
-    );
-    assert_eq!(rt; refusal_of(&rt, &image, 4_191)?, damaged(ImageError::Short));
-    let mut flipped = image;
-    if let Some(byte) = flipped.get_mut(4_200) {
+    let hello = image_with(&rt, b"hello")?;
+    let ragged = refusal_of(&rt, &hello, 4_247)?;
+    assert_eq!(rt; ragged, damaged(ImageError::Ragged));
+    let empty = image_with(&rt, b"")?;
+    let short = refusal_of(&rt, &empty, 4_191)?;
+    assert_eq!(rt; short, damaged(ImageError::Short));
+    Ok(())
+}
+
+// The sum of an image's words, which its last 32 bytes should be.
+fn sum_of(image: &[u8]) -> Digest {
+    Digest::of_key(&image[..image.len().saturating_sub(32)])
+}
+
+#[test]
+fn a_flipped_bit_of_an_action_is_told_by_both_sums(rt: HostRuntime) -> Result<(), Fail> {
+    let mut folder = fresh_folder(rt.alloc());
+    run_in(&rt, &mut folder, &["--make-blob"], b"a")?;
+    run_in(&rt, &mut folder, &["--make-blob"], b"b")?;
+    put_in(&rt, &mut folder, values().0)?;
+    let mut image = folder.file(b"v1.1").ok_or("an image")?.to_vec(rt.alloc())?;
+    // Two objects have seven words each, and the action five, of which the last one is the cell.
+    assert_eq!(rt; image.len(), 4_344);
+    let kept = sum_of(&image);
+    if let Some(byte) = image.get_mut(4_304) {
         *byte ^= 1;
     }
-    let sum = refusal_of(&rt, &flipped, 4_248)?;
-    assert_eq!(rt; (sum.status, sum.written), (6, 0));
-    assert!(rt;
-        matches!(
-            sum.answer,
-            Answer::Damaged {
-                name: 1,
-                error: ImageError::Sum { .. }
-            }
-        )
-    );
+    let error = ImageError::Sum {
+        kept,
+        found: sum_of(&image),
+    };
+    let damaged = nothing(6, Answer::Damaged { name: 1, error });
+    assert_eq!(rt; refusal_of(&rt, &image, 4_344)?, damaged);
     Ok(())
 }
 

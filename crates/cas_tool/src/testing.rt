@@ -153,19 +153,40 @@ pub fn run_over(
     requires { folder.old.asked ≡ None }
     ensures { folder.new.asked ≡ None }
 {
+    let mut all = owned(rt.alloc(), &["--cas", "c"])?;
+    for word in words {
+        all.push(word.to_string(rt.alloc())?)?;
+    }
+    run_words(rt, folder, &all, source, sink)
+}
+
+/// The same, of just these words, without `--cas c` before them.
+pub fn run_words(
+    rt: &HostRuntime,
+    folder: &mut MemFolder,
+    words: &[String],
+    source: MemSource,
+    sink: MemSink,
+) -> Result<Ran, Fail>
+    requires { folder.old.asked ≡ None }
+    ensures { folder.new.asked ≡ None }
+{
     let mut source = source;
     let mut sink = sink;
-    let mut owned = Vec::new(rt.alloc());
-    owned.push("--cas".to_string(rt.alloc())?)?;
-    owned.push("c".to_string(rt.alloc())?)?;
-    for word in words {
-        owned.push(word.to_string(rt.alloc())?)?;
-    }
-    let outcome = cas_run(rt, &owned, folder, &mut source, &mut sink, &NoGate);
+    let outcome = cas_run(rt, words, folder, &mut source, &mut sink, &NoGate);
     folder.leave();
     Ok(Ran {
         status: outcome.status,
         answer: outcome.answer,
         sink,
     })
+}
+
+/// These words, each a text of its own.
+pub fn owned(alloc: Global, words: &[&str]) -> Result<Vec<String>, Fail> {
+    let mut owned = Vec::new(alloc);
+    for word in words {
+        owned.push(word.to_string(alloc)?)?;
+    }
+    Ok(owned)
 }

@@ -1,9 +1,8 @@
 // Runs over sources and sinks in memory: the worked answers, with ids that another implementation of SHA-256 computed.
 use crate::answer::{Answer, Large, answer_text};
-use crate::run::cas_run;
-use crate::testing::{EMPTY, End, HELLO, Ran, ZERO, fresh_folder, nothing};
+use crate::testing::{EMPTY, End, HELLO, Ran, ZERO, fresh_folder, nothing, owned, run_words};
 use cas_model::{Digest, Full, Id, IdError};
-use cas_outside::{MemSink, MemSource, NoGate};
+use cas_outside::{MemSink, MemSource};
 use command_line::UsageKind;
 use image_file::ImageError;
 use region_check::{Flaw, FlawKind};
@@ -20,19 +19,11 @@ fn run_failing(
     failing_reads: &[u64],
     failing_writes: &[u64],
 ) -> Result<Ran, Fail> {
-    let mut owned = Vec::new(rt.alloc());
-    for word in words {
-        owned.push(word.to_string(rt.alloc())?)?;
-    }
     let mut folder = fresh_folder(rt.alloc());
-    let mut source = MemSource::new(bytes, failing_reads.to_vec(rt.alloc())?);
-    let mut sink = MemSink::new(rt.alloc(), 2_000, 7, failing_writes.to_vec(rt.alloc())?)?;
-    let outcome = cas_run(rt, &owned, &mut folder, &mut source, &mut sink, &NoGate);
-    Ok(Ran {
-        status: outcome.status,
-        answer: outcome.answer,
-        sink,
-    })
+    let words = owned(rt.alloc(), words)?;
+    let source = MemSource::new(bytes, failing_reads.to_vec(rt.alloc())?);
+    let sink = MemSink::new(rt.alloc(), 2_000, 7, failing_writes.to_vec(rt.alloc())?)?;
+    run_words(rt, &mut folder, &words, source, sink)
 }
 
 // How these words end in a fresh folder, on a source of these bytes.
@@ -109,30 +100,21 @@ fn a_workload_is_summed_up(rt: HostRuntime) -> Result<(), Fail> {
     Ok(())
 }
 
-// The words of a node with so many references.
-fn node_words(rt: &HostRuntime, count: usize) -> Result<Vec<String>, Fail> {
-    let mut words = Vec::new(rt.alloc());
-    for word in ["--cas", "c", "--make-node"] {
-        words.push(word.to_string(rt.alloc())?)?;
-    }
-    for _ in 0..count {
-        words.push(ZERO.to_string(rt.alloc())?)?;
-    }
-    Ok(words)
-}
-
 #[test]
 fn an_object_has_at_most_65535_references(rt: HostRuntime) -> Result<(), Fail> {
     let mut folder = fresh_folder(rt.alloc());
-    let mut source = MemSource::new(Vec::new(rt.alloc()), Vec::new(rt.alloc()));
-    let mut sink = MemSink::new(rt.alloc(), 100, 7, Vec::new(rt.alloc()))?;
-    let words = node_words(&rt, 65_536)?;
-    let outcome = cas_run(&rt, &words, &mut folder, &mut source, &mut sink, &NoGate);
+    let mut words = owned(rt.alloc(), &["--cas", "c", "--make-node"])?;
+    for _ in 0..65_536 {
+        words.push(ZERO.to_string(rt.alloc())?)?;
+    }
+    let source = MemSource::new(Vec::new(rt.alloc()), Vec::new(rt.alloc()));
+    let sink = MemSink::new(rt.alloc(), 100, 7, Vec::new(rt.alloc()))?;
     let large = Answer::TooLarge {
         what: Large::References,
         number: 65_536,
     };
-    assert_eq!(rt; (outcome.status, outcome.answer), (12, large));
+    let ran = run_words(&rt, &mut folder, &words, source, sink)?;
+    assert_eq!(rt; ran.end(), nothing(12, large));
     Ok(())
 }
 
