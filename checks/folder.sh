@@ -4,6 +4,7 @@
 set -u
 top=$(CDPATH='' cd -- "$(dirname -- "$0")/.." && pwd -P)
 tool=${1:-$top/llvm-cas}
+case $tool in /*) ;; *) tool=$PWD/$tool ;; esac
 work=$(mktemp -d)
 trap 'rm -rf "$work"' EXIT
 cd "$work" || exit 1
