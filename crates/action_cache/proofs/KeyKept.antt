@@ -31,19 +31,20 @@ use Rattle.cas_history.specs.Run.{tables as tables_after, filled_by}
 use Rattle.cas_history.proofs.Grown.{Grows, grows-more, filled-lasts, digest-lasts}
 use Rattle.cas_history.proofs.Sound.{IsSound, sound-run}
 use Rattle.cas_history.proofs.Under.{IsKept, kept-cases, kept-some}
-use Rattle.cell_port.specs.declared.block.Bound.{Bound}
-use Rattle.cell_port.specs.declared.block.Filled.{Filled}
-use Rattle.cell_port.specs.declared.block.Filled.TheVariants.{Won, Lost}
-use Rattle.cell_port.specs.declared.block.PortError.{PortError}
-use Rattle.cell_port.specs.declared.block.PortError.TheVariants as port
-use Rattle.cell_port.specs.Calls.{event_of, Adds, IsLawful, BindClaims, BoundTo, BindRefused, BindFull, IsPlaceFill, HasFilledPlace, WantsMemory, filled_as}
-use Rattle.cell_port.specs.View.{View, tables, tables_before}
+use Rattle.cas_port.specs.declared.block.Bound.{Bound}
+use Rattle.cas_port.specs.declared.block.Filled.{Filled}
+use Rattle.cas_port.specs.declared.block.Filled.TheVariants.{Won, Lost}
+use Rattle.cas_port.specs.declared.block.PortError.{PortError}
+use Rattle.cas_port.specs.declared.block.PortError.TheVariants as port
+use Rattle.cas_port.specs.Calls.{event_of, Adds, IsLawful, BindClaims, BoundTo, BindRefused, BindFull, IsPlaceFill, HasFilledPlace, WantsMemory, filled_as}
+use Rattle.cas_port.specs.View.{View, tables, tables_before}
 use Rattle.graph_db.specs.Events.{SpeaksFor, Ends, Stands}
 use Rattle.graph_db.specs.Parts.{IsWholeRecord}
 use Rattle.graph_db.proofs.Steps.{missed-more, claims-before, event-ends, event-last, adds-ends, asked-foreign, goes-speaks, goes-upstream, goes-takes}
 use Rattle.graph_db.proofs.Found.{goes-grows}
 use Rattle.graph_db.proofs.Loaded.{whole-record}
-use Rattle.action_cache.specs.Keys.{key_note, MaySeekKey, MayKeep, kept_reply, GoesOnKey, HasSoughtKey, KeyStops, Keeps, HasNoRoomForKey, KeyWantsMemory, KeepStops, Settles}
+use Rattle.action_cache.specs.Keys.{MaySeekKey, MayKeep, kept_reply, GoesOnKey, HasSoughtKey, KeyStops, Keeps, HasNoRoomForKey, KeyWantsMemory, KeepStops, Settles}
+use Rattle.cas_model.specs.Notes.{key_note}
 use Rattle.action_cache.proofs.KeySteps.{key-claims, key-foreign, key-goes, key-goes-self, key-goes-then, key-more, key-bind, key-claim, key-room, key-fill, key-says}
 
 -- ---- what binds and fills ask for

@@ -19,11 +19,12 @@ use Rattle.cas_history.specs.Lawful.{IsLawfulRun}
 use Rattle.cas_history.specs.Run.{tables as tables_after}
 use Rattle.cas_history.proofs.Grown.{grows-more}
 use Rattle.cas_history.proofs.Sound.{sound-run}
-use Rattle.cell_port.specs.Calls.{event_of, WantsMemory, IsLawful, Looked, HasRead, HasRecord}
-use Rattle.cell_port.specs.View.{View, tables, Foreign}
+use Rattle.cas_port.specs.Calls.{event_of, WantsMemory, IsLawful, Looked, HasRead, HasRecord}
+use Rattle.cas_port.specs.View.{View, tables, Foreign}
 use Rattle.graph_db.specs.Events.{SpeaksFor, Reads, Stands}
 use Rattle.graph_db.proofs.Steps.{stands-event, foreign-before, readings-foreign, reads-then, asked-readings}
-use Rattle.action_cache.specs.Keys.{key_note, MaySeekKey, GoesOnKey, HasSoughtKey, KeyStops}
+use Rattle.action_cache.specs.Keys.{MaySeekKey, GoesOnKey, HasSoughtKey, KeyStops}
+use Rattle.cas_model.specs.Notes.{key_note}
 use Rattle.action_cache.proofs.KeySteps.{key-foreign, key-goes-self, key-goes-then, key-more, key-read, key-look-quiet}
 
 -- ---- the look

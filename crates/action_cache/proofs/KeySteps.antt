@@ -21,11 +21,12 @@ use Rattle.cas_history.specs.declared.event.Event.{Event}
 use Rattle.cas_history.specs.Conduct.{MayAct, IsPart, IsValue, missed, is_key}
 use Rattle.cas_history.specs.History.{decided, decided_at, reply_where, reply_with, got, is_miss, left_by}
 use Rattle.cas_history.specs.Run.{tables as tables_after}
-use Rattle.cell_port.specs.Calls.{BindClaims}
-use Rattle.cell_port.specs.View.{View, Foreign}
+use Rattle.cas_port.specs.Calls.{BindClaims}
+use Rattle.cas_port.specs.View.{View, Foreign}
 use Rattle.graph_db.specs.Events.{AreOf, Goes}
 use Rattle.graph_db.proofs.Sought.{there-more}
-use Rattle.action_cache.specs.Keys.{key_note, MayKeep, kept_reply, AreOfKey, GoesOnKey}
+use Rattle.action_cache.specs.Keys.{MayKeep, kept_reply, AreOfKey, GoesOnKey}
+use Rattle.cas_model.specs.Notes.{key_note}
 
 -- ---- whose the events are
 

@@ -26,23 +26,23 @@ use Rattle.cas_history.specs.Run.{tables as tables_after}
 use Rattle.cas_history.proofs.Sound.{IsSound, sound-run}
 use Rattle.cas_history.proofs.Under.{IsUnder, under-cases, kept-none}
 use Rattle.cas_history.proofs.Visible.{has-stays}
-use Rattle.cell_port.specs.declared.block.PortError.{PortError}
-use Rattle.cell_port.specs.declared.block.PortError.TheVariants as port
-use Rattle.cell_port.specs.Calls.{event_of, IsLawful, Looked, HasRead, WantsMemory}
-use Rattle.cell_port.specs.View.{View, tables, Foreign}
+use Rattle.cas_port.specs.declared.block.PortError.{PortError}
+use Rattle.cas_port.specs.declared.block.PortError.TheVariants as port
+use Rattle.cas_port.specs.Calls.{event_of, IsLawful, Looked, HasRead, WantsMemory}
+use Rattle.cas_port.specs.View.{View, tables, Foreign}
 use Rattle.graph_db.specs.declared.error.StoreError.{StoreError}
 use Rattle.graph_db.specs.declared.error.StoreError.TheVariants as error
 use Rattle.graph_db.specs.Errors.{store_error}
 use Rattle.graph_db.specs.Events.{SpeaksFor, Reads, Ends, Stands, seen_state}
 use Rattle.graph_db.specs.Holds.{HasSought}
-use Rattle.graph_db.specs.Stores.{ref_note}
+use Rattle.cas_model.specs.Notes.{ref_note, deep_note}
 use Rattle.graph_db.proofs.Steps.{are-foreign, goes-speaks, goes-upstream, goes-takes, reads-goes, ends-then, asked-readings}
 use Rattle.graph_db.proofs.Sought as graph
 use Rattle.graph_db.proofs.Found.{sought-ends, sought-last, missed-here, found-here, goes-grows, not-zero-test}
 use Rattle.action_cache.specs.Keys.{MaySeekKey, MayKeep, AreOfKey, GoesOnKey, FindsKey, HasFoundKey, HasSoughtKey, KeyStops, KeepStops, Settles}
 use Rattle.action_cache.specs.Gets.{HasGot, HasHit, HasMissed, GetStops}
 use Rattle.action_cache.specs.Puts.{HasKept, IsRefused, HasValue, ValueStops}
-use Rattle.action_cache.specs.Brings.{deep_note, AreDeepLooks, LooksThenKeeps, HasBrought, BringStops}
+use Rattle.action_cache.specs.Brings.{AreDeepLooks, LooksThenKeeps, HasBrought, BringStops}
 use Rattle.action_cache.proofs.KeySteps.{key-goes, key-more}
 use Rattle.action_cache.proofs.KeyKept.{kept-there, key-missed, positive, sought-says}
 

@@ -13,15 +13,13 @@ use Rattle.cas_history.specs.declared.event.Act.TheVariants.{Look}
 use Rattle.cas_history.specs.declared.event.Event.{Event}
 use Rattle.cas_history.specs.Conduct.{CallOpen}
 use Rattle.cas_history.specs.Cost.{asked}
-use Rattle.cell_port.specs.declared.block.PortError.{PortError}
-use Rattle.cell_port.specs.declared.block.PortError.TheVariants as port
-use Rattle.cell_port.specs.Calls.{event_of}
-use Rattle.cell_port.specs.View.{View}
+use Rattle.cas_port.specs.declared.block.PortError.{PortError}
+use Rattle.cas_port.specs.declared.block.PortError.TheVariants as port
+use Rattle.cas_port.specs.Calls.{event_of}
+use Rattle.cas_port.specs.View.{View}
 use Rattle.graph_db.specs.Events.{Last, Stands, seen_state}
-use Rattle.action_cache.specs.Keys.{key_note, MaySeekKey, kept_reply, AreOfKey}
-
-abbrev pub deep_note : Who → Note
-deep_note who = record { who = who; stage = Deep }
+use Rattle.action_cache.specs.Keys.{MaySeekKey, kept_reply, AreOfKey}
+use Rattle.cas_model.specs.Notes.{key_note, deep_note}
 
 -- each event is a look of the call for an object that is brought in, or of a session that the port does not speak for
 abbrev pub AreDeepLooks : (ℕ → Bool) → Who → List Event → Type 0

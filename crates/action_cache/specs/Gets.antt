@@ -8,9 +8,9 @@ use Rattle.cas_model.specs.declared.call.Who.{Who}
 use Rattle.cas_model.specs.declared.digest.Digest.{Digest}
 use Rattle.cas_history.specs.Conduct.{missed, is_key}
 use Rattle.cas_history.specs.History.{reply_where}
-use Rattle.cell_port.specs.View.{View}
+use Rattle.cas_port.specs.View.{View}
 use Rattle.graph_db.specs.Events.{Ends, Last, Reads, seen_state}
-use Rattle.action_cache.specs.Keys.{key_note}
+use Rattle.cas_model.specs.Notes.{key_note}
 
 -- the call is decided by Hit of the primary's value
 pub record HasHit (who : Who) (key : Digest) (old new : View) (value : Digest) : Type 0 where

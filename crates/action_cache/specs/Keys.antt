@@ -2,6 +2,7 @@
 use Rattle.std.specs.Prelude.{◌≡◌, ℕ, ◌+◌, ◌<◌, ◌≤◌, List, [], ◌∷◌, ◌++◌, Bool, false, ◌==◌, ◌⊎◌, IsTrue, Some, None}
 use Rattle.std.specs.declared.option.Option.{Option}
 use Rattle.std.specs.FinMap as fin
+use Rattle.cas_model.specs.Notes.{key_note}
 use Rattle.cas_model.specs.declared.call.Call.{Call}
 use Rattle.cas_model.specs.declared.call.Call.TheVariants.{Store, Load, Put, Get}
 use Rattle.cas_model.specs.declared.call.Reply.{Reply}
@@ -21,14 +22,11 @@ use Rattle.cas_history.specs.Conduct.{CallOpen, MayAct, IsValue}
 use Rattle.cas_history.specs.Cost.{asked}
 use Rattle.cas_history.specs.History.{decided, decided_at, is_miss, left_by}
 use Rattle.cas_history.specs.Run.{tables as tables_after}
-use Rattle.cell_port.specs.declared.block.PortError.{PortError}
-use Rattle.cell_port.specs.declared.block.PortError.TheVariants as port
-use Rattle.cell_port.specs.Calls.{event_of}
-use Rattle.cell_port.specs.View.{View, tables}
+use Rattle.cas_port.specs.declared.block.PortError.{PortError}
+use Rattle.cas_port.specs.declared.block.PortError.TheVariants as port
+use Rattle.cas_port.specs.Calls.{event_of}
+use Rattle.cas_port.specs.View.{View, tables}
 use Rattle.graph_db.specs.Events.{Last, Reads, Stands, seen_state}
-
-abbrev pub key_note : Who → Note
-key_note who = record { who = who; stage = Key }
 
 -- the call may look for the key: its conduct allows it after what the port has seen
 abbrev pub MaySeekKey : View → Who → Call → Digest → Type 0

@@ -11,13 +11,12 @@ use Rattle.cas_model.specs.State.{has}
 use Rattle.cas_model.specs.Tables.{place_of, cell_of}
 use Rattle.cas_history.specs.Conduct.{missed, is_ref}
 use Rattle.cas_history.specs.History.{reply_where}
-use Rattle.cell_port.specs.View.{View, tables}
+use Rattle.cas_port.specs.View.{View, tables}
 use Rattle.graph_db.specs.declared.error.StoreError.{StoreError}
 use Rattle.graph_db.specs.declared.error.StoreError.TheVariants.{Dangling, Full, Memory}
 use Rattle.graph_db.specs.Events.{Ends, Last, Reads, seen_state}
 use Rattle.graph_db.specs.Holds.{HasSought, SeekStops}
-use Rattle.graph_db.specs.Stores.{ref_note}
-use Rattle.action_cache.specs.Keys.{key_note}
+use Rattle.cas_model.specs.Notes.{ref_note, key_note}
 
 -- the call is decided by the value that the key has in the primary
 pub record HasKept (who : Who) (key value : Digest) (old new : View) (kept : Digest) : Type 0 where

@@ -1,13 +1,13 @@
 // The value of a key.
 ghost use Rattle.std.specs.Prelude.{◌≡◌, IfOk, OnErr};
-ghost use Rattle.cell_port.specs.Calls.{IsLawful};
+ghost use Rattle.cas_port.specs.Calls.{IsLawful};
 ghost use Rattle.graph_db.specs.Events.{SpeaksFor};
 ghost use Rattle.action_cache.specs.Gets.{HasGot, GetStops};
 ghost use Rattle.action_cache.specs.Keys.{FindsKey, KeyStops};
 
 use crate::keeping::seek_key;
 use cas_model::{Digest, Place, Who};
-use cell_port::{CellPort, Steps};
+use cas_port::{CellPort, Steps};
 use graph_db::record_digest;
 use std::alloc::AllocError;
 use std::marker::Brand;

@@ -5,13 +5,13 @@ ghost use Rattle.cas_model.specs.Start.{IsFilled};
 ghost use Rattle.cas_model.specs.Tables.{digest_at};
 ghost use Rattle.cas_history.specs.Conduct.{is_key, missed};
 ghost use Rattle.cas_history.specs.Lawful.{Agrees};
-ghost use Rattle.cell_port.specs.Calls.{IsLawful};
-ghost use Rattle.cell_port.specs.View.{tables};
+ghost use Rattle.cas_port.specs.Calls.{IsLawful};
+ghost use Rattle.cas_port.specs.View.{tables};
 ghost use Rattle.graph_db.specs.Events.{SpeaksFor};
 ghost use Rattle.action_cache.specs.Keys.{HasSoughtKey, KeyStops, Keeps, KeepStops};
 
 use cas_model::{Digest, Note, Place, Space, Stage, Who};
-use cell_port::{CellPort, Filled, PortError, Steps};
+use cas_port::{CellPort, Filled, PortError, Steps};
 use std::alloc::AllocError;
 use std::sync::ledger::Ledger;
 

@@ -4,8 +4,6 @@
 mod getting;
 mod keeping;
 mod putting;
-#[cfg(test)]
-mod tests;
 
 pub use getting::{find_key, get};
 pub use putting::{bring, put};

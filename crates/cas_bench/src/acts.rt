@@ -2,7 +2,7 @@
 use crate::bench_error::BenchError;
 use crate::piece::{Measured, mixed};
 use cas_model::Digest;
-use sessions::{Line, Script};
+use cas_script::{Line, Script};
 use std::alloc::Global;
 use std::time::{Clock, Instant};
 

@@ -1,9 +1,9 @@
 // Why a piece was not timed.
+use cas_script::ScriptError;
 use fault_in::FaultInError;
 use graph_db::StoreError;
 use image_file::ImageError;
 use region_core::BuildError;
-use sessions::ScriptError;
 use std::alloc::{AllocError, AllocFailed};
 use std::io;
 

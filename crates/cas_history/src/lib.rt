@@ -8,22 +8,18 @@ mod event;
 mod lawful;
 mod laws;
 mod reading;
-mod replay;
 mod rows;
 mod theorem;
 
-pub use entry::{Asked, Entry};
+pub use below::{object_under, value_under};
+pub use entry::{Asked, Entry, call_of, copy_call};
 pub use error::ReplayError;
 pub use event::{Act, Answer, Event};
 pub use laws::{
     blocks_fit, costs_leave_room, ends_are_starts, events_change_their_kind, runs_grow,
     sessions_stay_apart,
 };
-pub use replay::Replay;
-pub use rows::{ClaimedBlock, Rows};
+pub use rows::{ClaimedBlock, Rows, put_front};
 pub use theorem::{
     calls_go_in_order, history_is_legal, loads_are_exact, primary_is_closed, promises_are_whole,
 };
-
-#[cfg(test)]
-mod tests;

@@ -4,3 +4,5 @@ pub mod Maps
 pub mod Subtries
 pub mod Fitting
 pub mod IdLemmas
+pub mod DataBytes
+pub mod ReadBack

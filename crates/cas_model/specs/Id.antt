@@ -1,7 +1,7 @@
 -- The texts of ids.
 use Rattle.std.specs.Prelude.{◌≡◌, ◌≢◌, ◌⊎◌, ℕ, ◌<◌, List, ◌++◌, codes, Ok, false, length, slice_index, take, drop}
 use Rattle.std.specs.List.{AllPass}
-use Rattle.hex.specs.Hex.{encode_lower, decode_of, is_hex_digit}
+use Rattle.hex.specs.Hex.{encode_lower, decode_of, is_hex_digit, IsBytes}
 use Rattle.hex.specs.declared.error.FromHexError.{FromHexError}
 use Rattle.hex.specs.declared.error.FromHexError.TheVariants.{InvalidHexCharacter, OddLength, InvalidStringLength, OutOfMemory}
 use Rattle.cas_model.specs.Object.{key_digest}
@@ -29,6 +29,11 @@ pub record IsIdOf (digest : Digest) (text : List ℕ) : Type 0 where
   pub begins : HasPrefix text
   pub long : length (digits_of text) ≡ 64
   pub digits : decode_of (digits_of text) ≡ Ok digest.bytes
+
+-- the text of a digest is read back: it is the id of this digest, and of no other
+abbrev pub IdsAreReadBack : Type 0
+IdsAreReadBack = (digest : Digest) → length digest.bytes ≡ 32 → IsBytes digest.bytes
+    → IsIdOf digest (id_text digest) × ((other : Digest) → IsIdOf other (id_text digest) → other ≡ digest)
 
 -- the text is no id, for this reason: no two of them hold of one text
 abbrev pub IsRefused : IdError → List ℕ → Type 0

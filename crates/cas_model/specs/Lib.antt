@@ -1,5 +1,6 @@
 pub mod Object
 pub mod Id
+pub mod Notes
 pub mod Content
 pub mod State
 pub mod Step

@@ -1,10 +1,11 @@
 // The text of an id.
 ghost use Rattle.std.specs.Prelude.{◌≡◌, ◌<◌, ◌^◌, IfOk, MatchResult};
-ghost use Rattle.cas_model.specs.Id.{id_text, digit_index, refusal_of, IsIdOf, IsRefused, IsKeyOf, IsRefusedKey};
+ghost use Rattle.cas_model.specs.Id.{id_text, digit_index, refusal_of, IdsAreReadBack, IsIdOf, IsRefused, IsKeyOf, IsRefusedKey};
 
 use crate::Digest;
 use hex::FromHexError;
 use std::alloc::{AllocError, Global};
+use thiserror::Error;
 
 /// What an id's text begins with.
 const PREFIX: &[u8] = b"llvmcas://";
@@ -20,18 +21,22 @@ pub struct Id {
 }
 
 /// Why a text is no id. The first of these that applies is answered.
-#[derive(Clone, Copy, Debug, PartialEq, Eq)]
+#[derive(Clone, Copy, Debug, PartialEq, Eq, Drop, Error)]
 pub enum IdError {
     /// The text does not begin with `llvmcas://`.
+    #[error("an id begins with llvmcas://")]
     BadPrefix,
     /// The rest is not 64 bytes long.
+    #[error("an id has 64 digits")]
     BadLength,
     /// The byte at this index of the rest, counted from 0, is the first that is no hexadecimal digit.
+    #[error("digit {0} is no hexadecimal digit")]
     BadDigit(u32),
 }
 
 impl Id {
-    /// The digest that a text is the id of. Upper-case digits are accepted too.
+    /// The digest that a text is the id of. Upper-case digits are accepted too. What `text` answers is read back to its
+    /// digest, as `ids_are_read_back` says.
     pub fn parse(text: &[u8]) -> Result<Digest, IdError>
         ensures { MatchResult result (λ digest. IsIdOf digest text.now) (λ error. IsRefused error text.now) }
     {
@@ -56,7 +61,7 @@ impl Id {
         }
     }
 
-    /// The id's text, with lower-case digits.
+    /// The id's text, with lower-case digits, which `parse` reads back. An error is want of memory.
     pub fn text(&self, alloc: Global) -> Result<Vec<u8>, AllocError>
         ensures { IfOk result (λ text. text.items ≡ id_text self.now.digest) }
     {
@@ -66,6 +71,12 @@ impl Id {
         Ok(text)
     }
 }
+
+/// What holds of ids: the text of each digest is the id of this digest, and of no other. It says so by its contract, and
+/// does nothing.
+pub fn ids_are_read_back()
+    ensures { IdsAreReadBack }
+{}
 
 // Why 64 digits are none, or that there are not so many.
 fn refusal(error: FromHexError) -> IdError

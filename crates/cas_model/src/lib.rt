@@ -11,15 +11,13 @@ mod note;
 mod object;
 mod place;
 mod tables;
-#[cfg(test)]
-mod tests;
 mod upstream;
 
 pub use call::{Call, Reply, Who};
 pub use content::{content_length, data_word, head_word, split_head};
 pub use contents::{Contents, Pair};
 pub use digest::Digest;
-pub use id::{Id, IdError};
+pub use id::{Id, IdError, ids_are_read_back};
 pub use note::{Note, Stage};
 pub use object::{Data, Object, Refs};
 pub use place::{Full, Place, Space};

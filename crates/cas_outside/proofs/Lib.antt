@@ -1,2 +1,3 @@
 pub mod FileTable
 pub mod MemFiles
+pub mod OsFiles

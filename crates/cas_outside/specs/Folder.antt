@@ -9,7 +9,7 @@ use Rattle.std.specs.List.{list_all}
 use Rattle.std.specs.FinMap as fin
 use Rattle.cas_outside.specs.declared.folder.FolderError.{FolderError}
 use Rattle.cas_outside.specs.declared.folder.FolderError.TheVariants.{Failed, Memory}
-use Rattle.cas_outside.specs.Causes.{Rose}
+use Rattle.cas_outside.specs.Causes.{Rose, RoseByOne}
 
 -- files by their names
 abbrev pub Files : Type 0
@@ -141,10 +141,11 @@ RemovesTo name old new (Ok x) = RemovesFile old.files new.files name
 RemovesTo name old new (Err Failed) = (new.files ≡ old.files) ⊎ RemovesFile old.files new.files name
 RemovesTo name old new (Err Memory) = new.files ≡ old.files
 
--- nothing but the files and the counts changes, and the count of changes rises
+-- nothing but the files and the counts changes, and the count of changes rises by one
 pub record Changes (old new : FolderView) : Type 0 where
   pub later : Later old new
   pub rose : Rose old.changes new.changes
+  pub by_one : RoseByOne old.changes new.changes
   pub is : new ≡ record old { files = new.files; faults = new.faults; held = new.held; changes = new.changes }
 
 pub record Replaced (name bytes : List ℕ) (old new : FolderView) (result : Result (Unit {0}) FolderError) : Type 0 where

@@ -9,4 +9,5 @@ pub mod MemSource
 pub mod MemSink
 pub mod Reading
 pub mod OsDraft
+pub mod OsFiles
 pub mod OsFolder

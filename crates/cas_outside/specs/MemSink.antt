@@ -1,5 +1,5 @@
 -- A sink in memory.
-use Rattle.std.specs.Prelude.{◌≡◌, ℕ, ◌==◌, ◌||◌, List, [], Some, Option, is_err, min, if◌then◌else◌, IfOk}
+use Rattle.std.specs.Prelude.{◌≡◌, ℕ, ◌-◌, ◌==◌, ◌||◌, List, [], Some, Option, is_err, min, if◌then◌else◌, IfOk, MatchResult}
 use Rattle.std.specs.declared.result.Result.{Result}
 use Rattle.cas_outside.specs.declared.Failed.{Failed}
 use Rattle.cas_outside.specs.declared.mem_sink.MemSink.{MemSink}
@@ -22,3 +22,9 @@ pub record WritesAsPlanned (asked : ℕ) (old new : MemSink) (result : Result �
   pub fails : is_err result ≡ ((old.room == 0) || is_planned old.fail.items new.calls)
   pub faults : new.faults ≡ (if (old.room == 0) || is_planned old.fail.items new.calls then next old.faults else old.faults)
   pub takes : IfOk result (λ n. n ≡ min (min asked old.most) old.room)
+
+-- the room falls by what was taken and stays at a failure; the most at a time and the failing calls stay in any case
+pub record KeepsSinkPlan (old new : MemSink) (result : Result ℕ Failed) : Type 0 where
+  pub room : MatchResult result (λ n. new.room ≡ old.room - n) (λ _. new.room ≡ old.room)
+  pub most : new.most ≡ old.most
+  pub fail : new.fail.items ≡ old.fail.items

@@ -5,13 +5,16 @@ ghost use Rattle.cas_outside.specs.Folder.{FolderView, MayEnter, Entered, Locked
 use crate::{Bytes, Failed, Name};
 use std::alloc::AllocError;
 use std::io::{self, ErrorKind};
+use thiserror::Error;
 
 /// Why a call of a folder did nothing, or maybe not all.
-#[derive(Clone, Copy, Debug, PartialEq, Eq)]
+#[derive(Clone, Copy, Debug, PartialEq, Eq, Drop, Error)]
 pub enum FolderError {
     /// It failed, and its count of faults rose in this call.
+    #[error("the folder failed")]
     Failed,
     /// It found no memory, and all is as before.
+    #[error("no memory")]
     Memory,
 }
 
@@ -55,7 +58,13 @@ impl From<io::Error> for FolderError {
     }
 }
 
-/// A folder of files that one process locks at a time. Names that are asked for begin with `v`, have at most 16 bytes,
+/// A folder of files that one process locks at a time.
+///
+/// One object is one use of one folder: it is entered and locked, and then listed, read and changed, until it is dropped,
+/// which gives the lock up. Its files grow by `replace` alone, each as a whole, and `remove` takes one away; meanwhile
+/// another object of the same folder finds the lock held.
+///
+/// Names that are asked for begin with `v`, have at most 16 bytes,
 /// and only letters, digits and dots, so that no caller makes a call fail by what it asks for. The names `lock` and
 /// `tmp` belong to the folder itself and are in no listing.
 pub trait Folder {
@@ -90,14 +99,14 @@ pub trait Folder {
         ensures stays { Stays (view self.old) (view self.new) result };
 
     /// Gives a file these bytes, whether it was there or not. After `Failed` it has its old bytes or the new ones. No
-    /// other file changes, and the count of changes rises.
+    /// other file changes, and the count of changes rises by one.
     fn replace(&mut self, name: &Name, bytes: &[u8]) -> Result<(), FolderError>
         requires locked { (view self.old).locked ≡ true }
         requires name { MayAsk name.now }
         ensures { Replaced name.now bytes.now (view self.old) (view self.new) result };
 
     /// Removes a file. After `Failed` it is there as before, or gone. No other file changes, and the count of changes
-    /// rises.
+    /// rises by one.
     fn remove(&mut self, name: &Name) -> Result<(), FolderError>
         requires locked { (view self.old).locked ≡ true }
         requires name { MayAsk name.now }

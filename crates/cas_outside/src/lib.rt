@@ -5,8 +5,6 @@
 mod file_table;
 mod folder;
 mod folder_record;
-#[cfg(test)]
-mod folder_tests;
 mod gate;
 mod mem_folder;
 mod mem_sink;
@@ -19,8 +17,6 @@ mod os_folder;
 mod plan;
 mod sink;
 mod source;
-#[cfg(test)]
-mod tests;
 
 pub use folder::{Folder, FolderError};
 pub use gate::{Gate, NoGate};
@@ -32,7 +28,9 @@ pub use no_folder::NoFolder;
 pub use os_folder::OsFolder;
 pub use sink::{Sink, WriteSink};
 pub use source::{ReadSource, Source};
+use thiserror::Error;
 
 /// A call failed, and its object's count of faults rose.
-#[derive(Clone, Copy, Debug, PartialEq, Eq)]
+#[derive(Clone, Copy, Debug, PartialEq, Eq, Drop, Error)]
+#[error("the call failed")]
 pub struct Failed;

@@ -22,6 +22,7 @@ impl MemSink {
     ghost use Rattle.std.specs.Prelude.{◌≡◌, ◌<◌, IfOk};
     ghost use Rattle.cas_outside.specs.MemSink.{IsFreshSink};
 
+    /// A sink with this room, which takes at most so many bytes at a time, and of whose calls those in the list fail.
     pub fn new(alloc: Global, room: u64, most: u64, fail: Vec<u64>) -> Result<MemSink, AllocError>
         requires { 0 < most }
         ensures { IfOk result (IsFreshSink room most fail.items) }
@@ -43,6 +44,7 @@ impl MemSink {
         })
     }
 
+    /// The bytes that it took.
     pub fn written(&self) -> &[u8]
         ensures { result.now ≡ self.now.bytes.items }
     {
@@ -54,7 +56,7 @@ impl Sink for MemSink {
     ghost use Rattle.std.specs.Prelude.{◌<◌, ◌≤◌, length, Some, IfOk};
     ghost use Rattle.std.specs.Io.KnownBytes.{WriteAppends};
     ghost use Rattle.cas_outside.specs.Causes.{HasCause};
-    ghost use Rattle.cas_outside.specs.MemSink.{sink_held, WritesAsPlanned};
+    ghost use Rattle.cas_outside.specs.MemSink.{sink_held, KeepsSinkPlan, WritesAsPlanned};
 
     ghost held = { λ s. sink_held s };
 
@@ -67,6 +69,7 @@ impl Sink for MemSink {
         ensures bytes { WriteAppends (sink_held self.old) (sink_held self.new) result bytes.now }
         ensures cause { HasCause self.old.faults self.new.faults result }
         ensures planned { WritesAsPlanned (length bytes.now) self.old self.new result }
+        ensures keeps { KeepsSinkPlan self.old self.new result }
     {
         self.calls = self.calls.saturating_add(1);
         if self.room == 0 || is_planned(&self.fail, self.calls) {

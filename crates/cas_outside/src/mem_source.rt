@@ -18,6 +18,7 @@ pub struct MemSource {
 impl MemSource {
     ghost use Rattle.cas_outside.specs.MemSource.{IsFreshSource};
 
+    /// A source of these bytes, of whose calls those in the list fail.
     pub fn new(bytes: Vec<u8>, fail: Vec<u64>) -> MemSource
         ensures { IsFreshSource bytes.items fail.items result }
     {
@@ -36,7 +37,7 @@ impl Source for MemSource {
     ghost use Rattle.std.specs.Io.{ReadsAtMost};
     ghost use Rattle.std.specs.Io.KnownBytes.{ReadConsumes};
     ghost use Rattle.cas_outside.specs.Causes.{HasCause};
-    ghost use Rattle.cas_outside.specs.MemSource.{source_left, ReadsAsPlanned};
+    ghost use Rattle.cas_outside.specs.MemSource.{source_left, GivesAll, ReadsAsPlanned};
 
     ghost left = { λ s. source_left s };
 
@@ -47,6 +48,7 @@ impl Source for MemSource {
         ensures bytes { ReadConsumes (source_left self.old) (source_left self.new) result into.new }
         ensures cause { HasCause self.old.faults self.new.faults result }
         ensures planned { ReadsAsPlanned self.old self.new result }
+        ensures gives { GivesAll (length into.old) self.old self.new result }
     {
         self.calls = self.calls.saturating_add(1);
         if is_planned(&self.fail, self.calls) {

@@ -1,5 +1,5 @@
 // The file `tmp`, on its way to another name.
-ghost use Rattle.std.specs.Prelude.{◌≡◌, true, length, IfOk, OnOk};
+ghost use Rattle.std.specs.Prelude.{◌≡◌, ◌≢◌, true, length, IfOk, OnOk};
 ghost use Rattle.cas_outside.specs.OsDraft.{IsEmptyDraft, HasTaken, IsSynced};
 
 use crate::os_files::refuse_special;
@@ -53,7 +53,7 @@ impl Draft {
         Ok(())
     }
 
-    /// Takes another name, in place of the file that had it. The draft has these bytes.
+    /// Takes another path, in place of the file that had it. The draft has these bytes.
     pub(crate) fn rename<R: Files>(
         self,
         rt: &R,
@@ -63,6 +63,7 @@ impl Draft {
     ) -> io::Result<()>
         requires whole { HasTaken (length bytes.now) self }
         requires synced { self.synced ≡ true }
+        requires apart { from.now ≢ to.now }
     {
         let _bytes = bytes;
         fs::rename(rt, from, to)

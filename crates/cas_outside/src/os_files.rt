@@ -1,5 +1,8 @@
 // Work on the files of a folder of the system.
-ghost use Rattle.std.specs.Prelude.{◌<◌, ◌≤◌, ◌+◌, ◌-◌, ◌^◌, length, IfOk};
+ghost use Rattle.std.specs.Prelude.{◌≡◌, ◌<◌, ◌≤◌, ◌+◌, ◌-◌, ◌^◌, length, string_bytes, IfOk};
+ghost use Rattle.cas_outside.specs.Folder.{MayAsk};
+ghost use Rattle.cas_outside.specs.MemFolder.{is_free_name};
+ghost use Rattle.cas_outside.specs.OsFiles.{path_in, ListsFreeNames, LockAnswers};
 ghost use Rattle.cas_outside.specs.Reading.{ReadsFront};
 
 use crate::os_draft::Draft;
@@ -13,12 +16,16 @@ use std::rt::Files;
 const BLOCK: usize = 65_536;
 
 // The path of a name in a folder.
-fn path_in(alloc: Global, dir: &str, name: &str) -> Result<String, AllocError> {
+fn path_in(alloc: Global, dir: &str, name: &str) -> Result<String, AllocError>
+    ensures { IfOk result (λ path. string_bytes path ≡ path_in dir.now name.now) }
+{
     format!(in alloc; "{dir}/{name}")
 }
 
 // A name that the folder is asked for is text.
-fn text_of(name: &Name) -> Result<&str, FolderError> {
+fn text_of(name: &Name) -> Result<&str, FolderError>
+    ensures { IfOk result (λ text. text.now ≡ name.now) }
+{
     match str::from_utf8(name.list()) {
         Ok(text) => Ok(text),
         Err(_) => Err(FolderError::Failed),
@@ -56,23 +63,40 @@ pub(crate) fn take_lock<R: Files<File = File> + AllocGlobal>(
         .write(true)
         .create(true)
         .open(rt, path.as_str())?;
-    match file.try_lock() {
+    let tried = file.try_lock();
+    lock_of(file, tried)
+}
+
+// The locked file, or none where another open of it has the lock.
+fn lock_of(file: File, tried: Result<(), TryLockError>) -> Result<Option<File>, FolderError>
+    ensures { LockAnswers file tried result }
+{
+    match tried {
         Ok(()) => Ok(Some(file)),
         Err(TryLockError::WouldBlock) => Ok(None),
         Err(TryLockError::Error(error)) => Err(error.into()),
     }
 }
 
+// Whether a name is not one of the folder's own two.
+fn is_free(name: &str) -> bool
+    ensures { result ≡ is_free_name name.now }
+{
+    !(name == "lock" || name == "tmp")
+}
+
 /// All names of the folder but its own two.
 pub(crate) fn list_names<R: Files + AllocGlobal + Clone + Drop>(
     rt: &R,
     dir: &str,
-) -> Result<Vec<Name>, FolderError> {
+) -> Result<Vec<Name>, FolderError>
+    ensures { IfOk result (λ names. ListsFreeNames names.items) }
+{
     let mut names = Vec::new(rt.alloc());
     for entry in fs::read_dir(rt, dir)? {
         let entry = entry?;
         let name = entry.file_name();
-        if name != "lock" && name != "tmp" {
+        if is_free(name) {
             let name = Name::of(rt.alloc(), name.as_bytes())?;
             names.push(name).map_err(AllocError::from)?;
         }
@@ -134,7 +158,9 @@ pub(crate) fn put_file<R: Files<File = File> + AllocGlobal>(
     dir: &str,
     name: &Name,
     bytes: &[u8],
-) -> Result<(), FolderError> {
+) -> Result<(), FolderError>
+    requires { MayAsk name.now }
+{
     let path = path_in(rt.alloc(), dir, text_of(name)?)?;
     let tmp = path_in(rt.alloc(), dir, "tmp")?;
     let mut draft = Draft::create(rt, tmp.as_str())?;

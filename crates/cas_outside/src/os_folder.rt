@@ -2,6 +2,7 @@
 ghost use Rattle.std.specs.Prelude.{◌≡◌, ◌<◌, ◌≤◌, ◌+◌, ◌-◌, ◌^◌, List, ℕ, true, length, IfOk};
 ghost use Rattle.cas_outside.specs.Folder.{fresh_view, MayEnter, Entered, Locked, Listed, MayAsk, HasFile, HasReadFile, Replaced, Removed, Stays};
 ghost use Rattle.cas_outside.specs.Plan.{next};
+ghost use Rattle.cas_outside.specs.OsFiles.{ListsFreeNames};
 ghost use Rattle.cas_outside.specs.OsFolder.{os_view, held_after, CountsAs, CountsFault};
 
 use crate::os_files::{list_names, make_folder, put_file, read_file, remove_file, take_lock};
@@ -138,6 +139,7 @@ impl<R: Files<File = File> + AllocGlobal + Clone + Drop> Folder for OsFolder<R> 
     fn names(&mut self) -> Result<Vec<Name>, FolderError>
         requires { (os_view self.old.state).locked ≡ true }
         ensures ok { IfOk result (λ names. Listed (os_view self.old.state) names.items) }
+        ensures free { IfOk result (λ names. ListsFreeNames names.items) }
         ensures stays { Stays (os_view self.old.state) (os_view self.new.state) result }
         ensures counts { CountsAs self.old.state.held self.old.state.changes (os_view self.old.state) (os_view self.new.state) result }
     {

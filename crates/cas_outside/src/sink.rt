@@ -49,7 +49,14 @@ impl<W: Write> Sink for WriteSink<W> {
 
     ghost faults = { λ s. s.faults };
 
-    fn write(&mut self, bytes: &[u8]) -> Result<usize, Failed> {
+    fn write(&mut self, bytes: &[u8]) -> Result<usize, Failed>
+        requires { 0 < length bytes.now }
+        ensures some { IfOk result (λ n. 0 < n) }
+        ensures most { IfOk result (λ n. n ≤ length bytes.now) }
+        ensures bytes { WriteAppends None None result bytes.now }
+        ensures cause { HasCause self.old.faults self.new.faults result }
+        ensures taken { WriteAppends (W.contents self.old.inner) (W.contents self.new.inner) result bytes.now }
+    {
         for _ in 0..1000 {
             match self.inner.write(bytes) {
                 Ok(0) => break,

@@ -1,40 +1,13 @@
 //! The command line of the store: reads its words and its input, runs one command, and writes the output.
 #![tactic(auto)]
 
-mod answer;
-#[cfg(test)]
-mod batch_tests;
-mod closing;
-mod front;
-#[cfg(test)]
-mod generation_tests;
-mod input;
-#[cfg(test)]
-mod limit_tests;
-mod opening;
-mod output;
-mod pruning;
-mod rotation;
-mod run;
-mod running;
-#[cfg(test)]
-mod store_tests;
-mod streams;
-#[cfg(test)]
-mod testing;
-#[cfg(test)]
-mod tests;
-mod validate;
-mod work;
-
-use answer::{Answer, answer_text};
+pub use cas_command::cas_run;
+use cas_command::{Answer, answer_text, keep_streams};
 use cas_outside::{NoGate, OsFolder, ReadSource, WriteSink};
 use command_line::UsageKind;
-use run::cas_run;
 use std::env;
 use std::io::{self, ErrorKind, Write};
 use std::process::ExitCode;
-use streams::keep_streams;
 
 fn main(rt: HostRuntime) -> ExitCode {
     let _streams = keep_streams(&rt);

@@ -9,8 +9,8 @@ use Rattle.cas_model.specs.declared.place.Space.{Space}
 use Rattle.cas_model.specs.declared.tables.Record.{Record}
 use Rattle.cas_model.specs.Trie.{new_subtries}
 use Rattle.cas_history.specs.declared.event.Event.{Event}
-use Rattle.cell_port.specs.declared.block.PortError.{PortError}
-use Rattle.cell_port.specs.declared.block.PortError.TheVariants.{Full, Memory}
+use Rattle.cas_port.specs.declared.block.PortError.{PortError}
+use Rattle.cas_port.specs.declared.block.PortError.TheVariants.{Full, Memory}
 use Rattle.cas_model.specs.Claims.{record_claims, IsFirstRefused}
 use Rattle.cell_port.specs.Claims.{Refuses}
 use Rattle.cell_port.specs.Needed.{needed, bound_in}

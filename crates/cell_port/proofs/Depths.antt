@@ -88,9 +88,6 @@ pub parts-at : (e d : Digest) (r a b : ℕ) → a ≡ index_of e.bytes r → b �
 parts-at e d r a b one two differ =
     ap (λ x. x && shares e d r) ((λ i. nat_eq (sym one i) (sym two i)) ∙ ne_eqb a b differ)
 
-pub goes-on : (e d : Digest) (r a b : ℕ) → a ≡ index_of e.bytes r → b ≡ index_of d.bytes r → a ≡ b → shares e d r ≡ true → shares e d (suc r) ≡ true
-goes-on e d r a b one two same here = (λ i. nat_eq (sym one i) (sym two i) && here i) ∙ ap (λ x. x && true) (eq-eqb a b same)
-
 -- a level is shared just where it is not below the deepest one
 abbrev LevelCases : Digest → Digest → ℕ → Type 0
 LevelCases e d l = ((l ≤ shared_level e d) × (shares e d l ≡ true)) ⊎ ((shared_level e d < l) × (shares e d l ≡ false))

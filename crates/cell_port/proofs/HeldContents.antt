@@ -1,5 +1,6 @@
 -- What the rows hold is the primary state, and can be stored again in this order.
-use Rattle.std.proofs.Common.{◌≡◌, ℕ, zero, suc, ◌<◌, ◌≤◌, ◌⊎◌, ◌++◌, List, [], ◌∷◌, Bool, true, false, cond, ◌==◌, ◌&&◌, inl, inr, Some, None, length, reverse, refl, ap, sym, ◌∙◌, subst, arith}
+use Rattle.std.proofs.Common.{◌≡◌, ℕ, zero, suc, ◌<◌, ◌≤◌, ◌⊎◌, ◌++◌, List, [], ◌∷◌, Bool, true, false, cond, ◌==◌, inl, inr, Some, None, length, reverse, refl, ap, sym, ◌∙◌, subst, arith}
+use Rattle.std.specs.Prelude.{is_some}
 use Rattle.std.specs.declared.option.Option.{Option}
 use Rattle.std.specs.declared.cmp.Ordering.TheVariants.{Less}
 use Rattle.std.specs.FinMap as fin
@@ -29,14 +30,14 @@ use Rattle.cas_model.proofs.Fitting.{contents-fit}
 use Rattle.cas_model.proofs.Maps.{get-put, get-object, get-value, same-states, same-is, same-self, digest_total}
 use Rattle.cas_history.specs.Run.{tables}
 use Rattle.cas_history.proofs.Sound.{sound-run}
-use Rattle.cell_port.specs.declared.block.OpenBlock.{OpenBlock}
+use Rattle.cas_port.specs.declared.block.OpenBlock.{OpenBlock}
 use Rattle.cas_history.specs.declared.event.Event.{Event}
 use Rattle.cell_port.specs.FilledRows.{IsFilledIn, AreFilledIn, RowNames, IsRow, AreRows, filled_objects, filled_pairs, row_object, row_pair, object_with, HoldsPairs, HoldsContents}
 use Rattle.cell_port.specs.Needed.{bound_in}
 use Rattle.cell_port.specs.Plain.{Tied}
 use Rattle.cell_port.specs.Tables.{PlainRows}
-use Rattle.cell_port.proofs.PartsBuilt.{member-has}
-use Rattle.cell_port.proofs.PartsLists.{reverse-cons, objects-reverse, digest-reverse, reverse-digest}
+use Rattle.cell_port.proofs.PartsBuilt.{member-has, bound-listed}
+use Rattle.cell_port.proofs.PartsLists.{reverse-cons, objects-reverse, digests-reverse}
 
 -- tables of these rows alone
 abbrev pub rows_of : List Record → List Content → List Cell → Tables
@@ -100,9 +101,6 @@ module _ (bound : List Record) (blocks : List Content) (tied : IsTied bound) whe
   pub objects-under : (cells : List Cell) → AreRows bound blocks cells → (q : Digest) → fin.get (objects_map (filled_objects bound blocks cells)) q ≡ object_under (rows_of bound blocks cells) q
   objects-under [] rows q = fin.get-empty digest_cmp q ∙ sym (ap (object_in (rows_of bound blocks [])) (cell-none (place_of bound Objects q)))
   objects-under (c ∷ cs) rows q = step rows.0.found.space refl rows.0.names (objects-under cs rows.1 q) where
-    now : Tables
-    now = rows_of bound blocks (c ∷ cs)
-
     step : (space : Space) → rows.0.found.space ≡ space → RowNames bound blocks cs space rows.0.found.digest c.value
         → fin.get (objects_map (filled_objects bound blocks cs)) q ≡ object_under (rows_of bound blocks cs) q
         → fin.get (objects_map (filled_objects bound blocks (c ∷ cs))) q ≡ object_under (rows_of bound blocks (c ∷ cs)) q
@@ -272,10 +270,10 @@ module _ (bound : List Record) (blocks : List Content) (tied : IsTied bound) whe
         subst (λ (os : List Object). AreStorable [] (reverse (os ++ filled_objects bound blocks cs))) (sym one)
         (subst (λ (os : List Object). AreStorable [] os) (sym (reverse-cons o (filled_objects bound blocks cs)))
         (storable-last [] (reverse (filled_objects bound blocks cs)) o again (omega (arith, places, names.content.few_refs)) names.content.short
-        (λ d m. inr (digest-reverse (filled_objects bound blocks cs) d (refs-member cs rows.1 (content_places words) names.refs d m)))
+        (λ d m. inr ((digests-reverse (filled_objects bound blocks cs) d).1 (refs-member cs rows.1 (content_places words) names.refs d m)))
         (λ m. m)
         (λ m. row-new c cs rows.1 rows.0 refl rows.0.found rows.0.is is
-        (subst (λ x. Member x (object_digests (filled_objects bound blocks cs))) names.named (reverse-digest (filled_objects bound blocks cs) (object_digest o) m)))))
+        (subst (λ x. Member x (object_digests (filled_objects bound blocks cs))) names.named ((digests-reverse (filled_objects bound blocks cs) (object_digest o)).0 m)))))
 
   -- ---- the actions
 
@@ -355,22 +353,12 @@ holds-contents up r opened seen objects pairs t are holds =
         storable = subst (λ (os : List Object). AreStorable [] os) (sym are) storable;
         puttable = puttable-rise (object_digests objects) [] pairs holds.rising
             (λ k v is. subst (λ (os : List Object). Member v (object_digests os)) (sym are)
-            (digest-reverse fo v (value-member r.bound r.blocks tied r.filled t.rows k v (ap (λ m. fin.get m k) (sym holds.state) ∙ is))))
+            ((digests-reverse fo v).1 (value-member r.bound r.blocks tied r.filled t.rows k v (ap (λ m. fin.get m k) (sym holds.state) ∙ is))))
             (λ k m n. m);
       };
       order = are ∙ (λ i. reverse (filled_objects (sym t.ties.bound_is i) (sym t.ties.blocks_is i) (sym t.ties.filled_is i)));
       rising = holds.rising;
     }
-
--- a digest with a place is listed
-bound-listed : (rs : List Record) (space : Space) (d : Digest) (p : Place) → place_of rs space d ≡ Some p → Member d (bound_in space rs)
-bound-listed [] space d p is = cc
-bound-listed (r ∷ rs) space d p is = step (same_space r.space space) (same_digest r.digest d) refl is (λ h. bound-listed rs space d p h) where
-  step : (a b : Bool) → same_digest r.digest d ≡ b → cond (a && b) (Some r.place) (place_of rs space d) ≡ Some p → (place_of rs space d ≡ Some p → Member d (bound_in space rs))
-      → Member d (cond a (r.digest ∷ bound_in space rs) (bound_in space rs))
-  step true true same is again = inl (same-is r.digest d same)
-  step true false same is again = inr (again is)
-  step false b same is again = again is
 
 -- the claims of what a plain port holds end at or below its counter, and so they fit
 pub holds-fit : (up : State) (r : PlainRows) (opened : List OpenBlock) (seen : List Event) (objects : List Object) (pairs : List Pair) → Tied up r opened seen
@@ -378,6 +366,6 @@ pub holds-fit : (up : State) (r : PlainRows) (opened : List OpenBlock) (seen : L
 holds-fit up r opened seen objects pairs t holds =
     let sound = sound-run up r.start seen t.lawful in
     let listed : (space : Space) (d : Digest) (p : Place) → place_of (tables r.start seen).bound space d ≡ Some p → Member d (bound_in space r.bound) =
-    λ space d p at. bound-listed r.bound space d p (ap (λ (rs : List Record). place_of rs space d) (sym t.ties.bound_is) ∙ at) in
+    λ space d p at. bound-listed r.bound space d (ap (λ (rs : List Record). is_some (place_of rs space d)) (sym t.ties.bound_is) ∙ ap is_some at) in
     contents-fit (tables r.start seen) sound.tied sound.names objects pairs (bound_in Objects r.bound) (bound_in Actions r.bound) r.start.size holds.lawful holds.state (listed Objects) (listed Actions)
     (omega (arith, t.paid, t.within, ap block_words t.ties.blocks_is))

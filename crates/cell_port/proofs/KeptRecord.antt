@@ -14,9 +14,9 @@ use Rattle.cas_history.specs.Grows.{Grows}
 use Rattle.cas_history.specs.Lawful.{IsLawfulRun, Agrees}
 use Rattle.cas_history.proofs.Grown.{grows-more, filled-lasts}
 use Rattle.cas_history.proofs.Sound.{sound-run}
-use Rattle.cell_port.specs.declared.block.Bound.{Bound}
-use Rattle.cell_port.specs.Calls.{event_of, IsLawful, BoundTo, IsPlaceFill}
-use Rattle.cell_port.specs.View.{View, tables}
+use Rattle.cas_port.specs.declared.block.Bound.{Bound}
+use Rattle.cas_port.specs.Calls.{event_of, IsLawful, BoundTo, IsPlaceFill}
+use Rattle.cas_port.specs.View.{View, tables}
 
 module _ (note : Note) (key : Digest) (v1 v2 : View) (bound : Bound) (binds : BoundTo note Actions key v1 v2 bound) (runs : IsLawful v1 v2) where
   grows : Grows (tables v1) (tables v2)

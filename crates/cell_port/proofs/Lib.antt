@@ -1,4 +1,3 @@
-pub mod Laid
 pub mod Opened
 pub mod RowLists
 pub mod Depths
@@ -20,8 +19,6 @@ pub mod PartsLoops
 pub mod ReadBack
 pub mod PairRows
 pub mod HeldContents
-pub mod WrittenHeads
-pub mod OneContent
 pub mod KeptRecord
 pub mod IndexDigests
 pub mod IndexRows

@@ -2,8 +2,8 @@
 use Rattle.std.proofs.Common.{◌≡◌, ℕ, suc, ◌<◌, ◌≤◌, List, [], ◌∷◌, Bool, true, false, cond, ◌==◌, Some, None, length, get_or, set, refl, ap, sym, ◌∙◌, arith, slice_set, IsSome, OnSome, IfSome}
 use Rattle.std.specs.declared.option.Option.{Option}
 use Rattle.std.specs.List.{remove}
-use Rattle.cell_port.specs.declared.block.OpenBlock.{OpenBlock}
-use Rattle.cell_port.specs.View.{open_words, write_word, close_block}
+use Rattle.cas_port.specs.declared.block.OpenBlock.{OpenBlock}
+use Rattle.cas_port.specs.View.{open_words, write_word, close_block}
 use Rattle.cell_port.specs.Tables.{first_at}
 
 pub open-at : (os : List OpenBlock) (at : ℕ) (d : OpenBlock) → first_at os at < length os → open_words os at ≡ (get_or os (first_at os at) d).words

@@ -24,7 +24,7 @@ use Rattle.cas_history.specs.Lawful.{IsActionRule, Agrees}
 use Rattle.cas_history.specs.Run.{tables}
 use Rattle.cas_history.proofs.Ended.{end-is-start}
 use Rattle.cas_history.proofs.Under.{carried-is}
-use Rattle.cell_port.specs.Calls.{event_of}
+use Rattle.cas_port.specs.Calls.{event_of}
 use Rattle.cell_port.specs.FilledRows.{filled_objects, row_object}
 use Rattle.cell_port.specs.Needed.{needed}
 use Rattle.cell_port.specs.Parts.{at_place, with_action, IsBuilt}

@@ -1,5 +1,6 @@
 -- What holds of the rows in which contents are stored.
-use Rattle.std.proofs.Common.{◌≡◌, ℕ, zero, suc, ◌<◌, ◌≤◌, ◌⊎◌, ◌++◌, List, [], ◌∷◌, Bool, true, false, cond, ◌&&◌, inl, inr, Some, None, length, get_or, min, append-nil, refl, ap, sym, ◌∙◌, subst, arith}
+use Rattle.std.proofs.Common.{◌≡◌, ℕ, zero, suc, ◌<◌, ◌≤◌, ◌⊎◌, ◌++◌, List, [], ◌∷◌, Bool, true, false, cond, ◌&&◌, inl, inr, Some, None, length, min, append-nil, refl, ap, sym, ◌∙◌, subst, arith}
+use Rattle.std.specs.Prelude.{◌↔◌, IsSome, is_some}
 use Rattle.std.specs.declared.option.Option.{Option}
 use Rattle.std.specs.FinMap as fin
 use Rattle.cas_model.specs.declared.contents.Pair.{Pair}
@@ -17,7 +18,7 @@ use Rattle.cas_model.specs.Contents.{contents_state, objects_map, object_digests
 use Rattle.cas_model.specs.Object.{object_digest}
 use Rattle.cas_model.specs.Primary.{primary, cell_under}
 use Rattle.cas_model.specs.Start.{IsLawfulStart, IsFilled, RefsBelow}
-use Rattle.cas_model.specs.State.{State, empty_state, Member, AreBytes}
+use Rattle.cas_model.specs.State.{State, empty_state, Member}
 use Rattle.cas_model.specs.Tables.{Tables, place_of, record_at, words_at, cell_of, digest_at, digests_at, digest_of_record, same_space, same_digest}
 use Rattle.cas_model.proofs.Maps.{get-put, get-object, same-is, same-self}
 use Rattle.cas_history.specs.declared.event.Event.{Event}
@@ -39,22 +40,37 @@ use Rattle.cell_port.proofs.RowsGrow.{RecordsStay, ContentsStay, object-grow}
 
 -- ---- what is bound
 
-pub and-cases : (a b : Bool) → ((a ≡ true) × (b ≡ true)) ⊎ ((a && b) ≡ false)
-and-cases true true = inl (refl, refl)
-and-cases true false = inr refl
-and-cases false b = inr refl
+-- a digest with a place is listed
+pub bound-listed : (rs : List Record) (space : Space) (d : Digest) → IsSome (place_of rs space d) → Member d (bound_in space rs)
+bound-listed [] space d is = cc
+bound-listed (r ∷ rs) space d is = step (same_space r.space space) (same_digest r.digest d) refl is (λ h. bound-listed rs space d h) where
+  step : (a b : Bool) → same_digest r.digest d ≡ b → IsSome (cond (a && b) (Some r.place) (place_of rs space d)) → (IsSome (place_of rs space d) → Member d (bound_in space rs))
+      → Member d (cond a (r.digest ∷ bound_in space rs) (bound_in space rs))
+  step true true same is again = inl (same-is r.digest d same)
+  step true false same is again = inr (again is)
+  step false b same is again = again is
+
+-- and a listed one has a place
+listed-bound : (rs : List Record) (space : Space) (d : Digest) → Member d (bound_in space rs) → IsSome (place_of rs space d)
+listed-bound [] space d m = absurd m
+listed-bound (r ∷ rs) space d m = step (same_space r.space space) (same_digest r.digest d) refl m (λ h. listed-bound rs space d h) where
+  step : (a b : Bool) → same_digest r.digest d ≡ b → Member d (cond a (r.digest ∷ bound_in space rs) (bound_in space rs)) → (Member d (bound_in space rs) → IsSome (place_of rs space d))
+      → IsSome (cond (a && b) (Some r.place) (place_of rs space d))
+  step true true same m again = refl
+  step true false same (inl is) again = absurd (cc (ap (λ x. same_digest x d) is, same, same-self d))
+  step true false same (inr m) again = again m
+  step false b same m again = again m
+
+-- so where these are listed, exactly these have places
+pub bound-are : (rs : List Record) (space : Space) (ds : List Digest) → bound_in space rs ≡ ds → (d : Digest) → IsSome (place_of rs space d) ↔ Member d ds
+bound-are rs space ds is d = subst (λ (xs : List Digest). IsSome (place_of rs space d) ↔ Member d xs) is (bound-listed rs space d, listed-bound rs space d)
 
 -- a digest that is not among the bound ones is not bound
 pub none-in : (rs : List Record) (space : Space) (d : Digest) → (Member d (bound_in space rs) → ⊥) → place_of rs space d ≡ None
-none-in [] space d none = refl
-none-in (r ∷ rs) space d none = step (same_space r.space space) refl none (λ h. none-in rs space d h) where
-  step : (b : Bool) → same_space r.space space ≡ b → (Member d (cond b (r.digest ∷ bound_in space rs) (bound_in space rs)) → ⊥)
-      → ((Member d (bound_in space rs) → ⊥) → place_of rs space d ≡ None) → cond (same_space r.space space && same_digest r.digest d) (Some r.place) (place_of rs space d) ≡ None
-  step false test none again = ap (λ b. cond (b && same_digest r.digest d) (Some r.place) (place_of rs space d)) test ∙ again none
-  step true test none again = by (same_digest r.digest d) refl where
-    by : (b : Bool) → same_digest r.digest d ≡ b → cond (same_space r.space space && same_digest r.digest d) (Some r.place) (place_of rs space d) ≡ None
-    by true same = absurd (none (inl (same-is r.digest d same)))
-    by false other = (λ i. cond (test i && other i) (Some r.place) (place_of rs space d)) ∙ again (λ m. none (inr m))
+none-in rs space d none = step (place_of rs space d) refl where
+  step : (o : Option Place) → place_of rs space d ≡ o → place_of rs space d ≡ None
+  step None is = is
+  step (Some p) is = absurd (none (bound-listed rs space d (ap is_some is)))
 
 -- an object whose digest is listed is in the map
 pub member-has : (objects : List Object) (d : Digest) → Member d (object_digests objects) → (o : Object) × (fin.get (objects_map objects) d ≡ Some o)
@@ -155,11 +171,6 @@ refs-there r t value grows le (d ∷ ds) known refs all =
       subst (λ (n : ℕ). IsFilled t n × (cell_of t.filled n < value) × RefsBelow t value (places_of r.bound ds)) (sym place) (filled, below, rest.0),
       λ i. (ap (digest_at t.bound) place ∙ named) i ∷ rest.1 i,
     )
-
-pub bytes-at : (bytes : List ℕ) → AreBytes bytes → (i : ℕ) → get_or bytes i 0 < 256
-bytes-at [] all i = omega arith
-bytes-at (b ∷ bs) all zero = all.0
-bytes-at (b ∷ bs) all (suc i) = bytes-at bs all.1 i
 
 pub grows-run : (up : State) (start : Tables) (seen : List Event) → IsLawfulRun up start seen → Grows start (tables start seen)
 grows-run up start seen lawful =

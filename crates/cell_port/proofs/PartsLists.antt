@@ -1,5 +1,6 @@
 -- Contents in their order and the other way round.
 use Rattle.std.proofs.Common.{◌≡◌, ◌⊎◌, ◌++◌, List, [], ◌∷◌, Bool, true, false, cond, inl, inr, Some, reverse, refl, ap, sym, ◌∙◌, subst}
+use Rattle.std.specs.Prelude.{◌↔◌}
 use Rattle.std.specs.FinMap as fin
 use Rattle.std.proofs.lemmas.List.{reverse-append, reverse-reverse}
 use Rattle.cas_model.specs.declared.contents.Pair.{Pair}
@@ -49,12 +50,15 @@ module _ {A X : Type 0} (key : A → Digest) (val : A → X) where
     step (inl h) = inl (inr h)
     step (inr h) = inr h
 
-  pub member-reverse : (xs : List A) (d : Digest) → Member d (keys (reverse xs)) → Member d (keys xs)
+  member-reverse : (xs : List A) (d : Digest) → Member d (keys (reverse xs)) → Member d (keys xs)
   member-reverse [] d m = m
   member-reverse (x ∷ xs) d m = step (member-last (reverse xs) x d (subst (λ (ys : List A). Member d (keys ys)) (reverse-cons x xs) m)) (λ h. member-reverse xs d h) where
     step : Member d (keys (reverse xs)) ⊎ (key x ≡ d) → (Member d (keys (reverse xs)) → Member d (keys xs)) → Member d (keys (x ∷ xs))
     step (inl h) again = inr (again h)
     step (inr h) again = inl h
+
+  keys-reverse : (xs : List A) (d : Digest) → Member d (keys (reverse xs)) ↔ Member d (keys xs)
+  keys-reverse xs d = (member-reverse xs d, λ m. member-reverse (reverse xs) d (subst (λ (ys : List A). Member d (keys ys)) (sym (reverse-reverse xs)) m))
 
   map-last : (xs : List A) (y : A) → (Member (key y) (keys xs) → ⊥) → map_of (xs ++ y ∷ []) ≡ fin.insert (map_of xs) (key y) (val y)
   map-last [] y fresh = refl
@@ -119,15 +123,11 @@ actions-reverse digests known ps puttable =
     actions-map (reverse ps) ∙ map-reverse (λ (p : Pair). p.key) (λ (p : Pair). p.value) ps (actions-distinct digests known ps puttable) ∙ sym (actions-map ps)
 
 -- and have the same digests
-pub digest-reverse : (os : List Object) (d : Digest) → Member d (object_digests os) → Member d (object_digests (reverse os))
-digest-reverse os d m =
-    subst (λ (ds : List Digest). Member d ds) (sym (object-keys (reverse os)))
-    (member-reverse object_digest (λ (o : Object). o) (reverse os) d
-    (subst (λ (ds : List Digest). Member d ds) (object-keys os ∙ ap (λ (xs : List Object). keys object_digest (λ (o : Object). o) xs) (sym (reverse-reverse os))) m))
+pub digests-reverse : (os : List Object) (d : Digest) → Member d (object_digests (reverse os)) ↔ Member d (object_digests os)
+digests-reverse os d = rw (object-keys os) (rw (object-keys (reverse os)) (keys-reverse object_digest (λ (o : Object). o) os d))
 
-pub reverse-digest : (os : List Object) (d : Digest) → Member d (object_digests (reverse os)) → Member d (object_digests os)
-reverse-digest os d m =
-    subst (λ (ds : List Digest). Member d ds) (sym (object-keys os)) (member-reverse object_digest (λ (o : Object). o) os d (subst (λ (ds : List Digest). Member d ds) (object-keys (reverse os)) m))
+pub pair-keys-reverse : (ps : List Pair) (d : Digest) → Member d (pair_keys (reverse ps)) ↔ Member d (pair_keys ps)
+pair-keys-reverse ps d = rw (action-keys ps) (rw (action-keys (reverse ps)) (keys-reverse (λ (p : Pair). p.key) (λ (p : Pair). p.value) ps d))
 
 pub puttable-there : (digests others known : List Digest) (ps : List Pair) → ((d : Digest) → Member d digests → Member d others) → ArePuttable digests known ps → ArePuttable others known ps
 puttable-there digests others known [] there puttable = tt

@@ -1,5 +1,6 @@
 -- Contents are stored one after the other.
 use Rattle.std.proofs.Common.{◌≡◌, ℕ, ◌+◌, ◌*◌, ◌<◌, ◌≤◌, ◌++◌, List, [], ◌∷◌, None, length, get_or, drop, reverse, sum, refl, ap, sym, ◌∙◌, subst, arith, append-nil, append_assoc, add-one}
+use mathlib.Core.Logic.Iff as Iff
 use Rattle.std.proofs.Math.Seq.{drop-cons, drop-length}
 use Rattle.cas_model.specs.declared.contents.Pair.{Pair}
 use Rattle.cas_model.specs.declared.digest.Digest.{Digest}
@@ -9,19 +10,19 @@ use Rattle.cas_model.specs.Content.{content_size, content_words}
 use Rattle.cas_model.specs.Contents.{contents_state, object_digests, pair_keys, AreStorable, ArePuttable, AreLawfulContents}
 use Rattle.cas_model.specs.Object.{object_digest}
 use Rattle.cas_model.specs.State.{Member, AreBytes}
-use Rattle.cas_model.specs.Tables.{Tables, place_of, empty_start}
+use Rattle.cas_model.specs.Tables.{Tables, place_of}
 use Rattle.cas_history.proofs.Ended.{empty-start}
-use Rattle.cell_port.specs.declared.block.PortError.{PortError}
+use Rattle.cas_port.specs.declared.block.PortError.{PortError}
 use Rattle.cas_model.specs.Claims.{record_claims, object_claims, action_claims, contents_claims}
 use Rattle.cell_port.specs.Claims.{Refuses}
 use Rattle.cell_port.specs.Needed.{bound_in, needed}
-use Rattle.cell_port.specs.Parts.{places_of, with_object, with_action, IsBuilt, StoresObjects, PutsPairs, OpensAt}
+use Rattle.cell_port.specs.Parts.{places_of, with_object, with_action, IsBuilt, StoresObjects, PutsPairs, OpensAt, BindsExactly}
 use Rattle.cell_port.specs.Tables.{PlainRows, as_start, empty_rows}
 use Rattle.cell_port.proofs.ClaimLists.{sum-append, sum-cons, sum-claims, refuses-first, refuses-then}
 use Rattle.cell_port.proofs.ContentWords.{length-content, length-places}
 use Rattle.cell_port.proofs.PartsAction.{action-built}
-use Rattle.cell_port.proofs.PartsBuilt.{none-in}
-use Rattle.cell_port.proofs.PartsLists.{reverse-cons, objects-reverse, actions-reverse, digest-reverse, puttable-there}
+use Rattle.cell_port.proofs.PartsBuilt.{none-in, bound-are}
+use Rattle.cell_port.proofs.PartsLists.{reverse-cons, objects-reverse, actions-reverse, digests-reverse, pair-keys-reverse, puttable-there}
 use Rattle.cell_port.proofs.PartsObject.{object-built}
 
 -- ---- the objects
@@ -61,12 +62,6 @@ module _ (size : ℕ) (objects : List Object) (i : ℕ) (r : PlainRows) (stores 
 
   left : AreStorable (object_digests stores.done) (o ∷ drop (i + 1) objects)
   left = subst (λ (os : List Object). AreStorable (object_digests stores.done) os) next stores.left
-
-  abbrev d : Digest
-  d = object_digest o
-
-  abbrev k : ℕ
-  k = needed r.bound Objects (object_digest o)
 
   pub is-next : IsNext r o
   is-next = record {
@@ -135,7 +130,7 @@ puts-none size objects actions n r lawful is stores =
       done = [];
       claims = [];
       built = subst (λ (os : List Object). IsBuilt size (sum (object_claims [] objects) + sum []) os [] r) (sym done) (subst (λ m. IsBuilt size m stores.done [] r) total stores.built);
-      left = puttable-there (object_digests objects) (object_digests (reverse objects)) [] actions (digest-reverse objects) lawful.puttable;
+      left = puttable-there (object_digests objects) (object_digests (reverse objects)) [] actions (λ d. (digests-reverse objects d).1) lawful.puttable;
       split = sym (append-nil (reverse actions));
       claimed = refl;
     }
@@ -186,11 +181,15 @@ module _ (size : ℕ) (objects : List Object) (actions : List Pair) (i : ℕ) (r
 
 -- ---- the end
 
+-- every pair is put
+all-put : (size : ℕ) (objects : List Object) (actions : List Pair) (r : PlainRows) (puts : PutsPairs size objects actions (length actions) r) → reverse actions ≡ puts.done
+all-put size objects actions r puts = puts.split ∙ ap (λ (ps : List Pair). reverse ps ++ puts.done) (drop-length actions)
+
 pub opens-at : (size : ℕ) (objects : List Object) (actions : List Pair) (r : PlainRows) → AreLawfulContents objects actions → PutsPairs size objects actions (length actions) r
     → OpensAt objects actions size (as_start r)
 opens-at size objects actions r lawful puts =
     let none : drop (length actions) actions ≡ [] = drop-length actions in
-    let done : reverse actions ≡ puts.done = puts.split ∙ ap (λ (ps : List Pair). reverse ps ++ puts.done) none in
+    let done = all-put size objects actions r puts in
     let claims : action_claims [] actions ≡ puts.claims =
     puts.claimed ∙ ap (λ (ps : List Pair). puts.claims ++ action_claims (pair_keys puts.done) ps) none ∙ append-nil puts.claims in
     let both = sum-append (object_claims [] objects) (action_claims [] actions) in
@@ -205,6 +204,11 @@ opens-at size objects actions r lawful puts =
       order = puts.built.order;
     }
 
--- the start of the rows is as an empty region's
-pub puts-start : (size : ℕ) (objects : List Object) (actions : List Pair) (r : PlainRows) → PutsPairs size objects actions (length actions) r → r.start ≡ empty_start r.start.size
-puts-start size objects actions r puts = puts.built.start ∙ sym (ap (λ (t : Tables). empty_start t.size) puts.built.start)
+-- and no other digests are bound
+pub binds-exactly : (size : ℕ) (objects : List Object) (actions : List Pair) (r : PlainRows) → PutsPairs size objects actions (length actions) r → BindsExactly objects actions (as_start r)
+binds-exactly size objects actions r puts =
+    let keys = puts.built.keys ∙ ap pair_keys (sym (all-put size objects actions r puts)) in
+    record {
+      objects_are = λ d. Iff.trans (bound-are r.bound Objects (object_digests (reverse objects)) puts.built.known d) (digests-reverse objects d);
+      keys_are = λ d. Iff.trans (bound-are r.bound Actions (pair_keys (reverse actions)) keys d) (pair-keys-reverse actions d);
+    }

@@ -27,26 +27,24 @@ use Rattle.cas_history.specs.Lawful.{IsObjectRule, Agrees}
 use Rattle.cas_history.specs.Run.{tables, published}
 use Rattle.cas_history.proofs.Ended.{end-is-start}
 use Rattle.cas_history.proofs.Under.{carried-is}
-use Rattle.cell_port.specs.declared.block.OpenBlock.{OpenBlock}
-use Rattle.cell_port.specs.Blank.{none_written}
-use Rattle.cell_port.specs.Calls.{event_of}
+use Rattle.cas_port.specs.declared.block.OpenBlock.{OpenBlock}
+use Rattle.cas_port.specs.Blank.{none_written}
+use Rattle.cas_port.specs.Calls.{event_of}
 use Rattle.cell_port.specs.FilledRows.{filled_objects, row_object, object_with}
 use Rattle.cell_port.specs.Needed.{needed}
 use Rattle.cell_port.specs.Parts.{places_of, with_object, IsBuilt}
 use Rattle.cell_port.specs.Plain.{Tied, bind_claims, rows_filled}
 use Rattle.cell_port.specs.Tables.{PlainRows, as_start}
-use Rattle.cell_port.specs.View.{IsOpenFor, close_block}
+use Rattle.cas_port.specs.View.{IsOpenFor, close_block}
 use Rattle.cell_port.proofs.ContentWords.{length-content, length-places}
 use Rattle.cell_port.proofs.PlainTies.{tied-bind, tied-open, tied-fill, length-none, counter-free}
 use Rattle.cell_port.proofs.RowsGrow.{RecordsStay, ContentsStay, records-more, contents-more}
-use Rattle.cell_port.proofs.PartsBuilt.{somebody, from_here, tied-here, ended-is, carried-claims, ref-is, refs-there, none-in, bytes-at, grows-run, filled-stay}
+use Rattle.cas_model.proofs.DataBytes.{bytes-at}
+use Rattle.cell_port.proofs.PartsBuilt.{somebody, from_here, tied-here, ended-is, carried-claims, ref-is, refs-there, none-in, grows-run, filled-stay}
 
 module _ (r : PlainRows) (size claimed : ℕ) (objects : List Object) (built : IsBuilt size claimed objects [] r) (o : Object) (few : length o.refs ≤ 65535) (short : length o.data ≤ 16777215)
     (bytes : AreBytes o.data) (all : AllMembers o.refs (object_digests objects)) (fresh : Member (object_digest o) (object_digests objects) → ⊥)
     (fits : (with_object r o).counter ≤ r.start.size) where
-  d : Digest
-  d = object_digest o
-
   abbrev here : PlainRows
   here = from_here r
 

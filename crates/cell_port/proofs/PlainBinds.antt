@@ -11,15 +11,15 @@ use Rattle.cas_history.specs.declared.event.Act.TheVariants.{Bind, Claim, Room}
 use Rattle.cas_history.specs.declared.event.Event.{Event}
 use Rattle.cas_history.specs.Run.{tables}
 use Rattle.cas_history.proofs.Grown.{for-self}
-use Rattle.cell_port.specs.declared.block.OpenBlock.{OpenBlock}
-use Rattle.cell_port.specs.declared.block.PortError.{PortError}
-use Rattle.cell_port.specs.declared.block.PortError.TheVariants.{Full, Memory}
-use Rattle.cell_port.specs.Calls.{event_of, BindClaims, BoundTo, BindRefused, BindFull, IsLawful}
+use Rattle.cas_port.specs.declared.block.OpenBlock.{OpenBlock}
+use Rattle.cas_port.specs.declared.block.PortError.{PortError}
+use Rattle.cas_port.specs.declared.block.PortError.TheVariants.{Full, Memory}
+use Rattle.cas_port.specs.Calls.{event_of, BindClaims, BoundTo, BindRefused, BindFull, IsLawful}
 use Rattle.cell_port.specs.Needed.{needed}
 use Rattle.cell_port.specs.Plain.{Tied, BindsNew, BindStays, BindIsRefused, bind_claims, claims_on, granted}
 use Rattle.cell_port.specs.PlainView.{plain_view}
 use Rattle.cell_port.specs.Tables.{PlainRows}
-use Rattle.cell_port.specs.View.{earlier}
+use Rattle.cas_port.specs.View.{earlier}
 use Rattle.cell_port.proofs.Depths.{needed-most}
 use Rattle.cell_port.proofs.PlainTies.{tied-bind, bind-claims-tied, tied-room, bound-now, row}
 
@@ -39,9 +39,6 @@ claims-within speaks note (suc k) most le = inr (16, refl, inr refl, omega arith
 
 module _ (up : State) (r : PlainRows) (opened : List OpenBlock) (seen : List Event) (t : Tied up r opened seen) (note : Note) (space : Space) (digest : Digest) where
   module _ (unbound : place_of r.bound space digest ≡ None) (new : PlainRows) (after : List Event) (place : Place) (binds : BindsNew note space digest r new seen after place) where
-    n : ℕ
-    n = needed r.bound space digest
-
     pub tied-new : Tied up new opened after
     tied-new =
         subst (λ (x : PlainRows). Tied up x opened after) (sym binds.rows)

@@ -13,17 +13,17 @@ use Rattle.cas_history.specs.declared.event.Act.{Act}
 use Rattle.cas_history.specs.declared.event.Act.TheVariants.{Look, Bind, Read, Claim, Room, Fill}
 use Rattle.cas_history.specs.declared.event.Event.{Event}
 use Rattle.cas_history.proofs.Sound.{content-some}
-use Rattle.cell_port.specs.declared.block.Block.{Block}
-use Rattle.cell_port.specs.declared.block.OpenBlock.{OpenBlock}
-use Rattle.cell_port.specs.declared.block.PortError.{PortError}
-use Rattle.cell_port.specs.declared.block.PortError.TheVariants.{Full, Memory}
+use Rattle.cas_port.specs.declared.block.Block.{Block}
+use Rattle.cas_port.specs.declared.block.OpenBlock.{OpenBlock}
+use Rattle.cas_port.specs.declared.block.PortError.{PortError}
+use Rattle.cas_port.specs.declared.block.PortError.TheVariants.{Full, Memory}
 use Rattle.cell_port.specs.declared.shown.Shown.{Shown}
-use Rattle.cell_port.specs.Calls.{event_of, IsWholeFill, words_of}
+use Rattle.cas_port.specs.Calls.{event_of, IsWholeFill, words_of}
 use Rattle.cell_port.specs.Needed.{needed}
 use Rattle.cell_port.specs.Plain.{Tied, Keeps, BindsNew, BindStays, BindIsRefused, bind_claims, granted, rows_filled}
 use Rattle.cell_port.specs.Shown.{act_words, words_before, shown_in, AreBelow, contents_of, number_at, shown_more}
 use Rattle.cell_port.specs.Tables.{PlainRows}
-use Rattle.cell_port.specs.View.{View}
+use Rattle.cas_port.specs.View.{View}
 use Rattle.cell_port.proofs.PlainBinds.{bind-append, tied-new, tied-stays}
 
 -- ---- the words of an event

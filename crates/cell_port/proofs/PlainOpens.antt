@@ -8,8 +8,8 @@ use Rattle.cas_model.specs.declared.tables.Record.{Record}
 use Rattle.cas_model.specs.Tables.{Tables, record_at, words_at}
 use Rattle.cas_history.specs.Lawful.{IsFreeBlock}
 use Rattle.cas_history.specs.Run.{claimed_by, filled_by}
-use Rattle.cell_port.specs.declared.block.OpenBlock.{OpenBlock}
-use Rattle.cell_port.specs.View.{open_words, write_word, close_block, IsOpenFor, written_words}
+use Rattle.cas_port.specs.declared.block.OpenBlock.{OpenBlock}
+use Rattle.cas_port.specs.View.{open_words, write_word, close_block, IsOpenFor, written_words}
 use Rattle.cell_port.specs.Tables.{first_at}
 use Rattle.cell_port.specs.Plain.{OpensBelow}
 

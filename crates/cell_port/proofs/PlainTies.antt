@@ -22,13 +22,13 @@ use Rattle.cas_history.specs.Run.{tables, claimed_by, bound_by, filled_by, publi
 use Rattle.cas_history.proofs.Blocks.{run-named-fits}
 use Rattle.cas_history.proofs.Placed.{placed-run, lawful-start, between-least, claim-within}
 use Rattle.cas_history.proofs.Sound.{sound-run, content-some}
-use Rattle.cell_port.specs.declared.block.OpenBlock.{OpenBlock}
-use Rattle.cell_port.specs.Blank.{none_written}
-use Rattle.cell_port.specs.declared.block.Block.{Block}
-use Rattle.cell_port.specs.declared.block.Filled.{Filled}
-use Rattle.cell_port.specs.Calls.{event_of, IsWholeFill, HasFilled, WordIs, filled_as, digest_word}
+use Rattle.cas_port.specs.declared.block.OpenBlock.{OpenBlock}
+use Rattle.cas_port.specs.Blank.{none_written}
+use Rattle.cas_port.specs.declared.block.Block.{Block}
+use Rattle.cas_port.specs.declared.block.Filled.{Filled}
+use Rattle.cas_port.specs.Calls.{event_of, IsWholeFill, HasFilled, WordIs, filled_as, digest_word}
 use Rattle.cell_port.specs.PlainView.{plain_view}
-use Rattle.cell_port.specs.View.{open_words, write_word, close_block, IsOpenFor, written_words, earlier}
+use Rattle.cas_port.specs.View.{open_words, write_word, close_block, IsOpenFor, written_words, earlier}
 use Rattle.cell_port.specs.Tables.{PlainRows}
 use Rattle.cell_port.specs.Needed.{needed, bound_in}
 use Rattle.cell_port.specs.Plain.{Ties, Tied, OpensBelow, IsPaid, open_total, claims_on, bind_claims, rows_filled}

@@ -1,6 +1,6 @@
-pub mod Blank
-pub mod View
-pub mod Calls
+pub use Rattle.cas_port.specs.Blank
+pub use Rattle.cas_port.specs.View
+pub use Rattle.cas_port.specs.Calls
 pub mod Tables
 pub mod Needed
 pub mod Depth
@@ -11,4 +11,3 @@ pub mod Plain
 pub mod PlainView
 pub mod Claims
 pub mod Parts
-pub mod Example

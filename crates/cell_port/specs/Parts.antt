@@ -1,5 +1,5 @@
 -- A plain port that is opened at contents.
-use Rattle.std.specs.Prelude.{◌≡◌, ℕ, ◌+◌, ◌*◌, List, [], ◌∷◌, ◌++◌, Some, None, length, reverse, drop, sum}
+use Rattle.std.specs.Prelude.{◌≡◌, ◌↔◌, IsSome, ℕ, ◌+◌, ◌*◌, List, [], ◌∷◌, ◌++◌, Some, None, length, reverse, drop, sum}
 use Rattle.std.specs.declared.option.Option.{Option}
 use Rattle.cas_model.specs.declared.contents.Pair.{Pair}
 use Rattle.cas_model.specs.declared.digest.Digest.{Digest}
@@ -12,6 +12,7 @@ use Rattle.cas_model.specs.Contents.{contents_state, object_digests, pair_keys, 
 use Rattle.cas_model.specs.Object.{object_digest}
 use Rattle.cas_model.specs.Primary.{primary}
 use Rattle.cas_model.specs.Start.{IsLawfulStart}
+use Rattle.cas_model.specs.State.{Member}
 use Rattle.cas_model.specs.Tables.{Tables, empty_start, place_of}
 use Rattle.cas_model.specs.Claims.{contents_claims, object_claims, action_claims}
 use Rattle.cell_port.specs.FilledRows.{AreRows, filled_objects}
@@ -27,6 +28,12 @@ pub record OpensAt (objects : List Object) (actions : List Pair) (size : ℕ) (s
   pub state : primary start ≡ contents_state objects actions
   -- the objects were filled in this order
   pub order : filled_objects start.bound start.blocks start.filled ≡ reverse objects
+
+-- a digest is bound in the space of objects exactly where it is the digest of one of these objects, and in the space of
+-- actions exactly where it is the key of one of these pairs
+pub record BindsExactly (objects : List Object) (actions : List Pair) (start : Tables) : Type 0 where
+  pub objects_are : (d : Digest) → IsSome (place_of start.bound Objects d) ↔ Member d (object_digests objects)
+  pub keys_are : (d : Digest) → IsSome (place_of start.bound Actions d) ↔ Member d (pair_keys actions)
 
 -- ---- on the way
 

@@ -14,11 +14,11 @@ use Rattle.cas_history.specs.declared.event.Act.TheVariants.{Bind, Claim, Room}
 use Rattle.cas_history.specs.declared.event.Event.{Event}
 use Rattle.cas_history.specs.Lawful.{IsLawfulRun, IsFreeBlock}
 use Rattle.cas_history.specs.Run.{tables, published}
-use Rattle.cell_port.specs.declared.block.OpenBlock.{OpenBlock}
-use Rattle.cell_port.specs.declared.block.PortError.{PortError}
-use Rattle.cell_port.specs.declared.block.PortError.TheVariants.{Full, Memory}
+use Rattle.cas_port.specs.declared.block.OpenBlock.{OpenBlock}
+use Rattle.cas_port.specs.declared.block.PortError.{PortError}
+use Rattle.cas_port.specs.declared.block.PortError.TheVariants.{Full, Memory}
 use Rattle.cell_port.specs.declared.shown.Shown.{Shown}
-use Rattle.cell_port.specs.Calls.{event_of}
+use Rattle.cas_port.specs.Calls.{event_of}
 use Rattle.cell_port.specs.FilledRows.{AreRows}
 use Rattle.cell_port.specs.Needed.{needed, bound_in}
 use Rattle.cell_port.specs.Shown.{AreBelow, contents_of}

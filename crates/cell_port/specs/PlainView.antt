@@ -3,10 +3,10 @@ use Rattle.std.specs.Prelude.{List, true}
 use Rattle.cas_model.specs.State.{State}
 use Rattle.cas_model.specs.Tables.{Tables}
 use Rattle.cas_history.specs.declared.event.Event.{Event}
-use Rattle.cell_port.specs.declared.block.OpenBlock.{OpenBlock}
+use Rattle.cas_port.specs.declared.block.OpenBlock.{OpenBlock}
 use Rattle.cas_history.specs.Run.{tables}
 use Rattle.cell_port.specs.Plain.{PlainValue, upstream_of}
-use Rattle.cell_port.specs.View.{View}
+use Rattle.cas_port.specs.View.{View}
 
 -- it speaks for every session, and takes memory
 abbrev pub plain_view : State → Tables → List Event → List OpenBlock → View

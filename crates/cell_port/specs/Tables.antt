@@ -4,7 +4,7 @@ use Rattle.cas_model.specs.declared.tables.Cell.{Cell}
 use Rattle.cas_model.specs.declared.tables.Content.{Content}
 use Rattle.cas_model.specs.declared.tables.Record.{Record}
 use Rattle.cas_model.specs.Tables.{Tables, empty_start}
-use Rattle.cell_port.specs.declared.block.OpenBlock.{OpenBlock}
+use Rattle.cas_port.specs.declared.block.OpenBlock.{OpenBlock}
 
 -- the rows at the start, and now. Places and the counter are in words
 pub record PlainRows : Type 0 where

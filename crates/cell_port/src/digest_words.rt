@@ -1,11 +1,11 @@
 // The words of a digest in a record.
 ghost use Rattle.std.specs.Prelude.{◌≡◌, ◌<◌};
-ghost use Rattle.cell_port.specs.Calls.{digest_word};
+ghost use Rattle.cas_port.specs.Calls.{digest_word};
 
 use cas_model::Digest;
 
 /// One of the four words of a digest: eight of its bytes, the high one first.
-#[tactic(auto, unfolding(crate::specs::Calls::digest_word))]
+#[tactic(auto, unfolding(cas_port::specs::Calls::digest_word))]
 pub fn digest_word(digest: &Digest, index: u64) -> u64
     requires { index < 4 }
     ensures { result ≡ digest_word digest.now index }

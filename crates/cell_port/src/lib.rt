@@ -2,26 +2,17 @@
 //! history.
 #![tactic(auto)]
 
-mod block;
 mod depth;
 mod digest_words;
-mod example;
 mod holdings;
 mod index;
 mod moves;
 mod pairs;
 mod parts;
 mod plain;
-mod port;
 mod searches;
 mod shown;
-mod steps;
 mod tables;
-#[cfg(test)]
-mod tests;
 
-pub use block::{Block, Bound, Filled, OpenBlock, PortError, Written};
-pub use example::store_content;
+pub use cas_port::{Block, Bound, CellPort, Filled, OpenBlock, PortError, Steps, Written};
 pub use plain::{Events, PlainPort};
-pub use port::CellPort;
-pub use steps::Steps;

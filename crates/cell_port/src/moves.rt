@@ -2,16 +2,16 @@
 ghost use Rattle.std.specs.Prelude.{◌≡◌, ◌+◌, ◌*◌, ◌<◌, ◌≤◌, ◌∷◌, [], None, length, IfOk, IfErr, OnOk, OnErr};
 ghost use Rattle.std.specs.VecDeque.{deque_len, deque_capacity};
 ghost use Rattle.cas_model.specs.Tables.{place_of, cell_of};
-ghost use Rattle.cell_port.specs.Calls.{event_of, filled_as};
+ghost use Rattle.cas_port.specs.Calls.{event_of, filled_as};
 ghost use Rattle.cell_port.specs.Needed.{needed};
 ghost use Rattle.cell_port.specs.Plain.{BindsNew, BindIsRefused, BindStays, bind_claims, rows_filled};
 ghost use Rattle.cell_port.specs.Shown.{shown_more};
 
 use crate::shown::{Shown, ShownList};
 use crate::tables::PlainTables;
-use crate::{Filled, PortError};
 use cas_history::{Act, Event};
 use cas_model::{Digest, Full, Note, Place, Record, Space, Words};
+use cas_port::{Filled, PortError};
 use std::alloc::{AllocError, Global};
 use std::collections::VecDeque;
 

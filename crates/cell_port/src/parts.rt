@@ -11,12 +11,12 @@ ghost use Rattle.cell_port.specs.Needed.{bound_in};
 ghost use Rattle.cell_port.specs.Parts.{at_place, places_of, with_object, with_action, StoresObjects, PutsPairs};
 ghost use Rattle.cas_model.specs.declared.place.Space.TheVariants.{Objects, Actions};
 
-use crate::PortError;
 use crate::moves::bind_new;
 use crate::tables::PlainTables;
 use cas_model::{
     Contents, Digest, Full, Note, Object, Pair, Space, Stage, Who, Words, data_word, head_word,
 };
+use cas_port::PortError;
 use std::alloc::{AllocError, Global};
 use std::collections::VecDeque;
 

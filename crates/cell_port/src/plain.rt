@@ -3,11 +3,11 @@ ghost use Rattle.std.specs.Prelude.{◌≡◌, ◌≤◌, ◌+◌, ◌*◌, ◌<
 ghost use Rattle.cas_model.specs.Contents.{AreLawfulContents};
 ghost use Rattle.cas_model.specs.Tables.{empty_start};
 ghost use Rattle.cas_model.specs.Tables.{place_of};
-ghost use Rattle.cell_port.specs.Calls.{IsLawful, HasClaimed, ClaimRefused, BoundTo, BindRefused, Ticks, event_of};
+ghost use Rattle.cas_port.specs.Calls.{IsLawful, HasClaimed, ClaimRefused, BoundTo, BindRefused, Ticks, event_of};
 ghost use Rattle.cas_model.specs.Claims.{contents_claims, Fit};
 ghost use Rattle.cell_port.specs.Claims.{Refuses};
 ghost use Rattle.cell_port.specs.FilledRows.{HoldsContents};
-ghost use Rattle.cell_port.specs.Parts.{OpensAt};
+ghost use Rattle.cell_port.specs.Parts.{BindsExactly, OpensAt};
 ghost use Rattle.cell_port.specs.Plain.{bind_events, refused_events, HasSeen};
 ghost use Rattle.cell_port.specs.PlainView.{port_view, port_tables};
 
@@ -19,9 +19,9 @@ use crate::parts::store_contents;
 use crate::searches::{take_open, write_open};
 use crate::shown::{ShownList, words_at};
 use crate::tables::PlainTables;
-use crate::{Block, Bound, CellPort, Filled, OpenBlock, PortError, Steps, Written};
 use cas_history::{Act, Event};
 use cas_model::{Contents, Digest, Full, NoUpstream, Note, Place, Space, Upstream};
+use cas_port::{Block, Bound, CellPort, Filled, OpenBlock, PortError, Steps, Written};
 use std::alloc::{AllocError, Global};
 use std::collections::VecDeque;
 use std::marker::Model;
@@ -77,9 +77,10 @@ impl<'u> PlainPort<'u, NoUpstream> {
 
 impl<'u> PlainPort<'u, NoUpstream> {
     /// A port of a region of so many words that is opened at contents, with no upstream. It has seen nothing: what the
-    /// contents hold is its start. `Full` where a claim passes the end: for each object its record, its subtries and its
-    /// content, and after the objects for each action its record and its subtries, in the contents' order; the numbers are
-    /// those of the first such claim.
+    /// contents hold is its start, in which the digests of their objects and the keys of their actions are bound, and no
+    /// others. `Full` where a claim passes the end: for each object its record, its subtries and its content, and after
+    /// the objects for each action its record and its subtries, in the contents' order; the numbers are those of the first
+    /// such claim.
     pub fn from_parts(
         alloc: Global,
         contents: &Contents,
@@ -90,6 +91,7 @@ impl<'u> PlainPort<'u, NoUpstream> {
         requires lawful { AreLawfulContents contents.now.objects.items contents.now.actions.items }
         ensures up { IfOk result (λ port. port.up ≡ None) }
         ensures start { IfOk result (λ port. OpensAt contents.now.objects.items contents.now.actions.items size port.start) }
+        ensures bound { IfOk result (λ port. BindsExactly contents.now.objects.items contents.now.actions.items port.start) }
         ensures seen { IfOk result (λ port. port.seen ≡ []) }
         ensures opened { IfOk result (λ port. port.opened ≡ []) }
         ensures err { IfErr result (Refuses size 520 (contents_claims contents.now.objects.items contents.now.actions.items)) }

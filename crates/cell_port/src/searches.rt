@@ -1,11 +1,11 @@
 // Searches in lists of rows, and in the open blocks of a port.
 ghost use Rattle.std.specs.Prelude.{◌≡◌, ◌<◌, ◌↔◌, length, IfOk, IfSome, IsSome, option_copied};
 ghost use Rattle.cas_model.specs.Tables.{words_at, same_space};
-ghost use Rattle.cell_port.specs.View.{open_words, write_word, close_block};
+ghost use Rattle.cas_port.specs.View.{open_words, write_word, close_block};
 ghost use Rattle.cell_port.specs.Tables.{first_at};
 
-use crate::OpenBlock;
 use cas_model::{Content, Space};
+use cas_port::OpenBlock;
 use std::collections::VecDeque;
 
 pub fn is_same_space(a: Space, b: Space) -> bool

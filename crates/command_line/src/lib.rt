@@ -3,8 +3,6 @@
 
 mod command;
 mod refusal;
-#[cfg(test)]
-mod tests;
 mod words;
 
 pub use command::{Command, DEFAULT_SIZE, Options, Request, Shows, Task};

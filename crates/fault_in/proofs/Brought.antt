@@ -23,16 +23,16 @@ use Rattle.cas_history.specs.Lawful.{IsLawfulRun, IsObjectRule, Agrees}
 use Rattle.cas_history.specs.Run.{tables as tables_after, claimed_by}
 use Rattle.cas_history.proofs.Grown.{Grows, grows-more, grows-act, refs-last}
 use Rattle.cas_history.proofs.Sound.{IsSound, sound-run}
-use Rattle.cell_port.specs.declared.block.Block.{Block}
-use Rattle.cell_port.specs.declared.block.Bound.{Bound}
-use Rattle.cell_port.specs.declared.block.Filled.{Filled}
-use Rattle.cell_port.specs.declared.block.OpenBlock.{OpenBlock}
-use Rattle.cell_port.specs.declared.block.PortError.{PortError}
-use Rattle.cell_port.specs.declared.block.PortError.TheVariants as port
-use Rattle.cell_port.specs.Blank.{none_written}
-use Rattle.cell_port.specs.Calls.{event_of, IsLawful, BoundTo, BindRefused, HasClaimed, ClaimRefused, IsWholeFill, HasFilled, Abandons, words_of}
-use Rattle.cell_port.specs.View.{View, Foreign, tables, tables_before, open_words, close_block, IsOpenFor, all_written}
-use Rattle.cell_port.proofs.PartsBuilt.{bytes-at}
+use Rattle.cas_port.specs.declared.block.Block.{Block}
+use Rattle.cas_port.specs.declared.block.Bound.{Bound}
+use Rattle.cas_port.specs.declared.block.Filled.{Filled}
+use Rattle.cas_port.specs.declared.block.OpenBlock.{OpenBlock}
+use Rattle.cas_port.specs.declared.block.PortError.{PortError}
+use Rattle.cas_port.specs.declared.block.PortError.TheVariants as port
+use Rattle.cas_port.specs.Blank.{none_written}
+use Rattle.cas_port.specs.Calls.{event_of, IsLawful, BoundTo, BindRefused, HasClaimed, ClaimRefused, IsWholeFill, HasFilled, Abandons, words_of}
+use Rattle.cas_port.specs.View.{View, Foreign, tables, tables_before, open_words, close_block, IsOpenFor, all_written}
+use Rattle.cas_model.proofs.DataBytes.{bytes-at}
 use Rattle.graph_db.specs.Events.{Goes}
 use Rattle.graph_db.specs.Parts.{AreFilled, IsOpenAlone, block_of, places_in, shut}
 use Rattle.graph_db.proofs.Found.{filled-grows, goes-grows}
@@ -40,7 +40,8 @@ use Rattle.graph_db.proofs.Steps.{goes-upstream}
 use Rattle.graph_db.proofs.Written.{all_written-some, length-map-some, words-some}
 use Rattle.fault_in.specs.FaultIn.{Brings, IsRefused}
 use Rattle.fault_in.specs.Parts.{BringStops, HasBrought, HasWords, IsFilledAt, IsReady}
-use Rattle.fault_in.specs.Tree.{AreBringing, IsBelow, deep_note, missed_since}
+use Rattle.fault_in.specs.Tree.{AreBringing, IsBelow, missed_since}
+use Rattle.cas_model.specs.Notes.{deep_note}
 use Rattle.fault_in.proofs.Contents.{cell-below, close-head, fill-under, filled-bound, length-places, object-content, open-head, places-grow, refs-below}
 use Rattle.fault_in.proofs.Steps.{Moved, adds-brings, bringing-append, bringing-claims, bringing-foreign, brings-goes, brings-then, missed-append, missed-stays, moved-true, wants-brings}
 use Rattle.fault_in.proofs.Written.{length-content}
@@ -271,6 +272,12 @@ module _ (who : Who) (digest : Digest) (o : Object) (places : List ℕ) (old cla
   pub fill-stops : (new : View) → Abandons v new block → BringStops who digest o old new port.Memory
   fill-stops new a = λ root below.
       subst (λ (x : View). Brings who root true old x) (sym (a.is ∙ ap (λ (os : List OpenBlock). record v { opened = os }) closed-is)) (brings-v root below)
+
+  -- the record is the digest's when it is filled
+  pub filled-at : (new : View) (filled : Filled) → IsLawful v new → (f : HasFilled (deep_note who) cell v new block filled) → place_of (tables_after v.start (f.others ++ v.seen)).bound Objects digest ≡ Some cell
+  filled-at new filled lawful f =
+      let run = subst (λ (x : View). IsLawfulRun x.upstream x.start x.seen) f.is lawful.is in
+      (grows-more v.upstream v.start f.others v.seen run.0).places Objects digest cell at-v
 
   pub fill-brings : (new : View) (filled : Filled) → IsLawful v new → HasFilled (deep_note who) cell v new block filled → HasBrought who digest o old new cell
   fill-brings new filled lawful f =

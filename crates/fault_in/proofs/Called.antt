@@ -8,11 +8,12 @@ use Rattle.cas_model.specs.State.{State}
 use Rattle.cas_history.specs.declared.event.Act.TheVariants.{Room}
 use Rattle.cas_history.specs.Conduct.{IsRoot}
 use Rattle.cas_history.specs.Cost.{AreOfTree, IsWithinCost, Lacks, Row, rows_cost}
-use Rattle.cell_port.specs.Calls.{event_of}
-use Rattle.cell_port.specs.View.{View, tables_before}
+use Rattle.cas_port.specs.Calls.{event_of}
+use Rattle.cas_port.specs.View.{View, tables_before}
 use Rattle.graph_db.specs.Events.{Goes, Last, seen_state}
 use Rattle.fault_in.specs.FaultIn.{Costs, IsRefused}
-use Rattle.fault_in.specs.Tree.{AreMissing, HasRows, HasTree, deep_note}
+use Rattle.fault_in.specs.Tree.{AreMissing, HasRows, HasTree}
+use Rattle.cas_model.specs.Notes.{deep_note}
 use Rattle.fault_in.proofs.Costs.{lacks-row}
 use Rattle.fault_in.proofs.Steps.{bringing-are}
 

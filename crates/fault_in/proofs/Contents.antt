@@ -22,10 +22,10 @@ use Rattle.cas_history.proofs.Sound.{IsSound, sound-run}
 use Rattle.cas_history.proofs.Under.{IsUnder, under-cases}
 use Rattle.cas_history.proofs.Blocks.{run-named-fits}
 use Rattle.cas_history.proofs.Placed.{placed-run}
-use Rattle.cell_port.specs.declared.block.Block.{Block}
-use Rattle.cell_port.specs.declared.block.OpenBlock.{OpenBlock}
-use Rattle.cell_port.specs.View.{open_words, close_block}
-use Rattle.cell_port.proofs.PartsBuilt.{bytes-at}
+use Rattle.cas_port.specs.declared.block.Block.{Block}
+use Rattle.cas_port.specs.declared.block.OpenBlock.{OpenBlock}
+use Rattle.cas_port.specs.View.{open_words, close_block}
+use Rattle.cas_model.proofs.DataBytes.{bytes-at}
 use Rattle.graph_db.specs.Parts.{AreFilled, places_in, place_number, block_of}
 
 -- ---- the references lie below the claimed block

@@ -20,18 +20,19 @@ use Rattle.cas_history.proofs.Grown.{Grows}
 use Rattle.cas_history.proofs.Sound.{IsSound}
 use Rattle.cas_history.proofs.Under.{under-none}
 use Rattle.cas_history.proofs.Visible.{has-stays}
-use Rattle.cell_port.specs.declared.block.Block.{Block}
-use Rattle.cell_port.specs.declared.block.Bound.{Bound}
-use Rattle.cell_port.specs.declared.block.Filled.{Filled}
-use Rattle.cell_port.specs.declared.block.PortError.{PortError}
-use Rattle.cell_port.specs.declared.block.PortError.TheVariants as port
-use Rattle.cell_port.specs.Calls.{event_of, words_of, Abandons, Adds, BindClaims, BindRefused, BoundTo, ClaimRefused, HasClaimed, HasFilled, WantsMemory}
-use Rattle.cell_port.specs.View.{View}
+use Rattle.cas_port.specs.declared.block.Block.{Block}
+use Rattle.cas_port.specs.declared.block.Bound.{Bound}
+use Rattle.cas_port.specs.declared.block.Filled.{Filled}
+use Rattle.cas_port.specs.declared.block.PortError.{PortError}
+use Rattle.cas_port.specs.declared.block.PortError.TheVariants as port
+use Rattle.cas_port.specs.Calls.{event_of, words_of, Abandons, Adds, BindClaims, BindRefused, BoundTo, ClaimRefused, HasClaimed, HasFilled, WantsMemory}
+use Rattle.cas_port.specs.View.{View}
 use Rattle.graph_db.specs.Events.{SpeaksFor}
 use Rattle.graph_db.proofs.Steps.{asked-foreign}
 use Rattle.fault_in.specs.FaultIn.{CostsOfBrought}
 use Rattle.fault_in.specs.Parts.{AsksAtMost, HasWords}
-use Rattle.fault_in.specs.Tree.{AreMissing, HasRows, deep_note}
+use Rattle.fault_in.specs.Tree.{AreMissing, HasRows}
+use Rattle.cas_model.specs.Notes.{deep_note}
 
 -- ---- what events ask for
 

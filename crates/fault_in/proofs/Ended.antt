@@ -27,17 +27,18 @@ use Rattle.cas_history.proofs.Promised.{closed-whole}
 use Rattle.cas_history.proofs.Sound.{IsSound, sound-run, sound-start}
 use Rattle.cas_history.proofs.Under.{closed}
 use Rattle.cas_history.proofs.Visible.{cell-has}
-use Rattle.cell_port.specs.Calls.{IsLawful}
-use Rattle.cell_port.specs.View.{View, tables, tables_before}
+use Rattle.cas_port.specs.Calls.{IsLawful}
+use Rattle.cas_port.specs.View.{View, tables, tables_before}
 use Rattle.frozen_store.specs.Seen.{FrozenSeen, IsSeen, place_in}
 use Rattle.graph_db.specs.Events.{SpeaksFor, Stands, seen_state}
 use Rattle.graph_db.proofs.Found.{goes-grows}
-use Rattle.graph_db.proofs.Steps.{foreign-others, goes-speaks, goes-upstream, missed-more, stands-event}
+use Rattle.graph_db.proofs.Steps.{foreign-others, goes-speaks, goes-start, goes-upstream, missed-more, stands-event}
 use Rattle.fault_in.specs.declared.error.FaultInError.{FaultInError}
 use Rattle.fault_in.specs.declared.error.FaultInError.TheVariants.{Full, Memory}
 use Rattle.fault_in.specs.FaultIn.{Brings, Costs, FaultInStops, IsRefused, IsWholeNow, KeepsConduct}
 use Rattle.fault_in.specs.Parts.{AsksAtMost, HasSought, HasTreeIn, IsThere, TreeStops}
-use Rattle.fault_in.specs.Tree.{AreBringing, AreMissing, HasTree, IsBringing, IsNeeded, deep_note, missed_since}
+use Rattle.fault_in.specs.Tree.{AreBringing, AreMissing, HasTree, IsBringing, IsNeeded, missed_since}
+use Rattle.cas_model.specs.Notes.{deep_note}
 use Rattle.fault_in.proofs.Brought.{refused-then}
 use Rattle.fault_in.proofs.Costs.{cell-lacks, missing-before}
 use Rattle.fault_in.proofs.Steps.{Moved, brings-goes, moved-then, moved-true}
@@ -157,6 +158,9 @@ module _ (who : Who) (root : Digest) (old mid : View) (lawful : IsLawful old mid
 
     pub root-upstream : mid.upstream ≡ old.upstream
     root-upstream = goes-upstream who old mid (brings-goes who root false old mid moved.0)
+
+    pub root-start : mid.start ≡ old.start
+    root-start = goes-start who old mid (brings-goes who root false old mid moved.0)
 
     -- what is missing after the look was missing before it
     before : (rows : List Row) → AreMissing mid.upstream root (seen_state mid) rows → AreMissing old.upstream root (seen_state old) rows

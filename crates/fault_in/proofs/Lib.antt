@@ -8,6 +8,9 @@ pub mod Opened
 pub mod Lower
 pub mod Fresh
 pub mod Work
+pub mod Visited
+pub mod Quiet
 pub mod Walked
+pub mod Ordered
 pub mod Ended
 pub mod Called

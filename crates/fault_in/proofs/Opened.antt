@@ -8,7 +8,7 @@ use Rattle.cas_model.specs.declared.place.Space.TheVariants.{Objects}
 use Rattle.cas_model.specs.State.{State, HasAll, Leads, Member, Refers, has}
 use Rattle.cas_model.specs.Tables.{Tables, place_of}
 use Rattle.cas_history.proofs.Grown.{Grows}
-use Rattle.cell_port.specs.View.{View, tables}
+use Rattle.cas_port.specs.View.{View, tables}
 use Rattle.graph_db.specs.Parts.{AreFilled, place_number, places_in}
 use Rattle.graph_db.proofs.Found.{filled-grows}
 use Rattle.fault_in.specs.declared.walking.Open.{Open}
@@ -27,7 +27,7 @@ places-append : (s : Tables) (xs ys : List Digest) → places_in s (xs ++ ys) �
 places-append s [] ys = refl
 places-append s (x ∷ xs) ys = ap (λ (ns : List ℕ). place_number (place_of s.bound Objects x) ∷ ns) (places-append s xs ys)
 
-take-more : (xs : List Digest) (i : ℕ) (d : Digest) → slice_get xs i ≡ Some d → take (i + 1) xs ≡ take i xs ++ (d ∷ [])
+pub take-more : (xs : List Digest) (i : ℕ) (d : Digest) → slice_get xs i ≡ Some d → take (i + 1) xs ≡ take i xs ++ (d ∷ [])
 take-more [] i d at = cc
 take-more (x ∷ xs) zero d at = let e : x ≡ d = cc in ap (λ (y : Digest). y ∷ []) e
 take-more (x ∷ xs) (suc i) d at = let e : suc i + 1 ≡ suc (i + 1) = omega arith in ap (λ n. take n (x ∷ xs)) e ∙ ap (λ (ys : List Digest). x ∷ ys) (take-more xs i d at)
@@ -42,13 +42,13 @@ get-member [] i d at = cc
 get-member (x ∷ xs) zero d at = let e : x ≡ d = cc in inl e
 get-member (x ∷ xs) (suc i) d at = inr (get-member xs i d at)
 
-take-end : (xs : List Digest) (i : ℕ) → slice_get xs i ≡ None → take i xs ≡ xs
+pub take-end : (xs : List Digest) (i : ℕ) → slice_get xs i ≡ None → take i xs ≡ xs
 take-end [] zero at = refl
 take-end [] (suc i) at = refl
 take-end (x ∷ xs) zero at = cc
 take-end (x ∷ xs) (suc i) at = ap (λ (ys : List Digest). x ∷ ys) (take-end xs i at)
 
-length-more : (xs : List ℕ) (n : ℕ) → length (xs ++ (n ∷ [])) ≡ length xs + 1
+pub length-more : (xs : List ℕ) (n : ℕ) → length (xs ++ (n ∷ [])) ≡ length xs + 1
 length-more [] n = refl
 length-more (x ∷ xs) n = ap suc (length-more xs n) ∙ omega arith
 

@@ -12,12 +12,12 @@ use Rattle.cas_model.specs.Tables.{place_of, cell_of}
 use Rattle.cas_history.specs.declared.event.Act.TheVariants.{Look, Read}
 use Rattle.cas_history.specs.Run.{tables as tables_after}
 use Rattle.cas_history.proofs.Sound.{sound-run}
-use Rattle.cell_port.specs.Calls.{HasRead, HasRecord, IsLawful, Looked, WantsMemory}
-use Rattle.cell_port.specs.View.{View, tables}
+use Rattle.cas_port.specs.Calls.{HasRead, HasRecord, IsLawful, Looked, WantsMemory}
+use Rattle.cas_port.specs.View.{View, tables}
 use Rattle.graph_db.specs.Events.{SpeaksFor}
 use Rattle.graph_db.proofs.Found.{goes-grows}
 use Rattle.fault_in.specs.Parts.{AsksAtMost, HasSought, Seeks}
-use Rattle.fault_in.specs.Tree.{deep_note}
+use Rattle.cas_model.specs.Notes.{deep_note}
 use Rattle.fault_in.proofs.Costs.{asks-adds, asks-then, asks-wants}
 use Rattle.fault_in.proofs.Steps.{adds-brings, brings-goes, miss-moved, moved-any, moved-then, wants-brings}
 

@@ -11,11 +11,12 @@ use Rattle.cas_history.specs.declared.event.Event.{Event}
 use Rattle.cas_history.specs.Conduct.{same_who}
 use Rattle.cas_history.specs.History.{is_miss}
 use Rattle.cas_history.specs.Run.{tables as tables_after}
-use Rattle.cell_port.specs.Calls.{event_of, Adds, BindClaims, WantsMemory}
-use Rattle.cell_port.specs.View.{View, Foreign}
+use Rattle.cas_port.specs.Calls.{event_of, Adds, BindClaims, WantsMemory}
+use Rattle.cas_port.specs.View.{View, Foreign}
 use Rattle.graph_db.specs.Events.{AreOf, Goes}
 use Rattle.fault_in.specs.FaultIn.{Brings}
-use Rattle.fault_in.specs.Tree.{AreBringing, IsBringing, deep_note, missed_since}
+use Rattle.fault_in.specs.Tree.{AreBringing, IsBringing, missed_since}
+use Rattle.cas_model.specs.Notes.{deep_note}
 
 -- ---- misses
 

@@ -14,10 +14,10 @@ use Rattle.cas_history.specs.Lawful.{IsLawfulRun}
 use Rattle.cas_history.proofs.Grown.{Grows}
 use Rattle.cas_history.proofs.Sound.{IsSound, sound-run}
 use Rattle.cas_history.proofs.Visible.{cell-has}
-use Rattle.cell_port.specs.declared.block.PortError.{PortError}
-use Rattle.cell_port.specs.declared.block.PortError.TheVariants as port
-use Rattle.cell_port.specs.Calls.{IsLawful}
-use Rattle.cell_port.specs.View.{View, tables}
+use Rattle.cas_port.specs.declared.block.PortError.{PortError}
+use Rattle.cas_port.specs.declared.block.PortError.TheVariants as port
+use Rattle.cas_port.specs.Calls.{IsLawful}
+use Rattle.cas_port.specs.View.{View, tables}
 use Rattle.graph_db.specs.Events.{SpeaksFor, seen_state}
 use Rattle.graph_db.proofs.Found.{goes-grows}
 use Rattle.graph_db.proofs.Steps.{goes-speaks, goes-upstream}

@@ -6,11 +6,11 @@ use Rattle.std.proofs.lemmas.Bool.{eq-eqb}
 use Rattle.std.proofs.lemmas.List.{drop-drop}
 use Rattle.cas_model.specs.declared.call.Who.{Who}
 use Rattle.cas_model.specs.Content.{content_size, content_head, content_words, data_words, words_from, data_word_at}
-use Rattle.cell_port.specs.declared.block.Block.{Block}
-use Rattle.cell_port.specs.declared.block.OpenBlock.{OpenBlock}
-use Rattle.cell_port.specs.Blank.{none_written}
-use Rattle.cell_port.specs.Calls.{IsOpen, HasWritten}
-use Rattle.cell_port.specs.View.{View, open_words, write_word}
+use Rattle.cas_port.specs.declared.block.Block.{Block}
+use Rattle.cas_port.specs.declared.block.OpenBlock.{OpenBlock}
+use Rattle.cas_port.specs.Blank.{none_written}
+use Rattle.cas_port.specs.Calls.{IsOpen, HasWritten}
+use Rattle.cas_port.specs.View.{View, open_words, write_word}
 use Rattle.graph_db.specs.Parts.{partly, block_of, IsOpenAlone}
 use Rattle.graph_db.proofs.Written.{partly-none, length-partly, partly-more, partly-all}
 use Rattle.fault_in.specs.Parts.{HasWords}

@@ -11,12 +11,13 @@ use Rattle.cas_history.specs.declared.event.Act.TheVariants.{Room}
 use Rattle.cas_history.specs.declared.event.Event.{Event}
 use Rattle.cas_history.specs.Conduct.{CallOpen, is_shallow, missed}
 use Rattle.cas_history.specs.Cost.{Row, asked, rows_cost}
-use Rattle.cell_port.specs.Calls.{event_of}
-use Rattle.cell_port.specs.View.{View, tables_before}
+use Rattle.cas_port.specs.Calls.{event_of}
+use Rattle.cas_port.specs.View.{View, tables_before}
 use Rattle.graph_db.specs.Events.{Stands, seen_state}
 use Rattle.fault_in.specs.declared.error.FaultInError.{FaultInError}
 use Rattle.fault_in.specs.declared.error.FaultInError.TheVariants.{Full, Memory}
-use Rattle.fault_in.specs.Tree.{AreBringing, AreMissing, HasRows, HasTree, IsNeeded, deep_note, missed_since}
+use Rattle.fault_in.specs.Tree.{AreBringing, AreMissing, HasRows, HasTree, IsNeeded, missed_since}
+use Rattle.cas_model.specs.Notes.{deep_note}
 
 -- only what was seen grows, by events that bring in the tree
 pub record Brings (who : Who) (root : Digest) (before : Bool) (old new : View) : Type 0 where

@@ -3,3 +3,4 @@ pub mod Tree
 pub mod FaultIn
 pub mod Parts
 pub mod Open
+pub mod Order

@@ -12,10 +12,10 @@ use Rattle.cas_model.specs.Primary.{cell_under}
 use Rattle.cas_model.specs.State.{AreBytes}
 use Rattle.cas_model.specs.Tables.{place_of}
 use Rattle.cas_history.specs.Cost.{asked}
-use Rattle.cell_port.specs.declared.block.Block.{Block}
-use Rattle.cell_port.specs.declared.block.PortError.{PortError}
-use Rattle.cell_port.specs.declared.block.PortError.TheVariants as port
-use Rattle.cell_port.specs.View.{View, tables}
+use Rattle.cas_port.specs.declared.block.Block.{Block}
+use Rattle.cas_port.specs.declared.block.PortError.{PortError}
+use Rattle.cas_port.specs.declared.block.PortError.TheVariants as port
+use Rattle.cas_port.specs.View.{View, tables}
 use Rattle.graph_db.specs.Parts.{AreFilled, block_of, places_in}
 use Rattle.fault_in.specs.declared.error.FaultInError.{FaultInError}
 use Rattle.fault_in.specs.declared.error.FaultInError.TheVariants.{Full, Memory}

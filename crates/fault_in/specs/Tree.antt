@@ -5,11 +5,10 @@ use Rattle.std.specs.FinMap as fin
 use Rattle.cas_model.specs.declared.call.Call.{Call}
 use Rattle.cas_model.specs.declared.call.Who.{Who}
 use Rattle.cas_model.specs.declared.digest.Digest.{Digest}
-use Rattle.cas_model.specs.declared.note.Note.{Note}
-use Rattle.cas_model.specs.declared.note.Stage.TheVariants.{Deep}
 use Rattle.cas_model.specs.declared.object.Object.{Object}
 use Rattle.cas_model.specs.declared.place.Place.{Place}
 use Rattle.cas_model.specs.declared.place.Space.TheVariants.{Objects}
+use Rattle.cas_model.specs.Notes.{deep_note}
 use Rattle.cas_model.specs.State.{State, Leads, has}
 use Rattle.cas_model.specs.Tables.{Tables, place_of}
 use Rattle.cas_history.specs.declared.event.Act.{Act}
@@ -19,9 +18,6 @@ use Rattle.cas_history.specs.Conduct.{InTree, IsPart, IsContentOf, same_who}
 use Rattle.cas_history.specs.Cost.{Lacks, Row}
 use Rattle.cas_history.specs.History.{is_miss}
 use Rattle.cas_history.specs.Run.{tables as tables_after}
-
-abbrev pub deep_note : Who → Note
-deep_note who = record { who = who; stage = Deep }
 
 -- the object is the upstream's, and references reach it from the root
 pub record IsBelow (up : State) (root digest : Digest) (o : Object) : Type 0 where

@@ -2,15 +2,18 @@
 ghost use Rattle.std.specs.Prelude.{◌≡◌};
 
 use cas_model::Full;
-use cell_port::PortError;
+use cas_port::PortError;
 use std::alloc::AllocError;
+use thiserror::Error;
 
 /// Why a tree is not brought in. The kinds are this project's own.
-#[derive(Clone, Copy, Debug, PartialEq, Eq)]
+#[derive(Clone, Copy, Debug, PartialEq, Eq, Drop, Error)]
 pub enum FaultInError {
     /// A claim was refused, with the numbers that it found.
+    #[error("{0}")]
     Full(Full),
     /// The port wanted memory, or the list of open objects did.
+    #[error("no memory")]
     Memory,
 }
 

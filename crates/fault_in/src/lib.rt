@@ -3,8 +3,6 @@
 
 mod error;
 mod seeking;
-#[cfg(test)]
-mod tests;
 mod walking;
 mod writing;
 

@@ -1,11 +1,12 @@
 // Looking for an object of the tree.
 ghost use Rattle.std.specs.Prelude.{IfOk, OnErr};
-ghost use Rattle.cell_port.specs.Calls.{IsLawful};
+ghost use Rattle.cas_port.specs.Calls.{IsLawful};
 ghost use Rattle.graph_db.specs.Events.{SpeaksFor};
+ghost use Rattle.fault_in.specs.Order.{IsQuiet};
 ghost use Rattle.fault_in.specs.Parts.{AsksAtMost, HasSought, SeekStops};
 
 use cas_model::{Digest, Note, Place, Space, Stage, Who};
-use cell_port::{CellPort, Steps};
+use cas_port::{CellPort, Steps};
 use std::alloc::AllocError;
 use std::sync::ledger::Ledger;
 
@@ -21,6 +22,7 @@ pub(crate) fn seek<L: Ledger, P: CellPort>(
     ensures err { OnErr result (SeekStops who (P.view port.old) (P.view port.new)) }
     ensures lawful { IsLawful (P.view port.old) (P.view port.new) }
     ensures cost { AsksAtMost who 0 (P.view port.old) (P.view port.new) }
+    ensures quiet { IsQuiet who (P.view port.old).seen (P.view port.new).seen }
 {
     let note = Note {
         who,

@@ -1,21 +1,22 @@
 // Going through a tree, children before parents.
-ghost use Rattle.std.specs.Prelude.{◌≡◌, ◌↔◌, ◌∷◌, ◌++◌, [], length, slice_get, true, false, Ok, MatchOption, IfOk, IfErr, OnOk};
+ghost use Rattle.std.specs.Prelude.{◌≡◌, ◌↔◌, ◌∷◌, ◌++◌, [], length, slice_get, true, false, Ok, MatchOption, IfOk, IfErr, OnOk, OnErr};
 ghost use Rattle.cas_model.specs.Primary.{primary};
 ghost use Rattle.cas_model.specs.State.{has};
 ghost use Rattle.cas_history.specs.Lawful.{IsLawfulRun};
-ghost use Rattle.cell_port.specs.Calls.{IsLawful};
+ghost use Rattle.cas_port.specs.Calls.{IsLawful};
 ghost use Rattle.frozen_store.specs.Seen.{IsSeen};
 ghost use Rattle.graph_db.specs.Events.{SpeaksFor, seen_state};
 ghost use Rattle.graph_db.specs.Parts.{IsLawfulOrSame};
 ghost use Rattle.fault_in.specs.FaultIn.{HasFaultedIn, FaultInStops};
 ghost use Rattle.fault_in.specs.Open.{HasAdded, IsOpening};
+ghost use Rattle.fault_in.specs.Order.{IsVisited, IsVisitedInPart};
 ghost use Rattle.fault_in.specs.Parts.{IsThere, HasTreeIn, TreeStops};
 
 use crate::FaultInError;
 use crate::seeking::seek;
 use crate::writing::bring;
 use cas_model::{Digest, Object, Place, Who};
-use cell_port::{CellPort, Steps};
+use cas_port::{CellPort, Steps};
 use frozen_store::Frozen;
 use std::alloc::{AllocError, Global};
 use std::marker::Brand;
@@ -49,9 +50,10 @@ impl Open {
 
 /// Copies the tree of a digest from an upstream into the port's primary, and answers whether the upstream has it.
 ///
-/// Each object that is not filled is copied after those that it refers to, in order. One that is filled is skipped with
-/// its tree. `Full` comes exactly where a claim was refused, with its numbers, and `Memory` from the port or from the
-/// list of open objects. After either, what was filled stays.
+/// What an object refers to is visited by rising index: one that is filled by then is passed, with its tree, and one
+/// that is not is brought in, after all that it refers to. Nothing else is filled. `Full` comes exactly where a claim was
+/// refused, with its numbers, and `Memory` from the port or from the list of open objects. After either, what was filled
+/// stays, and is the beginning of such a visit.
 pub fn fault_in<P: CellPort>(
     alloc: Global,
     port: &mut P,
@@ -65,6 +67,8 @@ pub fn fault_in<P: CellPort>(
     ensures ok { IfOk result (HasFaultedIn who digest.now (P.view port.old) (P.view port.new)) }
     ensures err { IfErr result (FaultInStops who digest.now (P.view port.old) (P.view port.new)) }
     ensures lawful { IsLawfulOrSame (P.view port.old) (P.view port.new) }
+    ensures order { IfOk result (IsVisited (primary up.now.tables) who digest.now (P.view port.old) (P.view port.new)) }
+    ensures order_so_far { OnErr result (IsVisitedInPart (primary up.now.tables) who digest.now (P.view port.old) (P.view port.new)) }
 {
     up.seen();
     if up.content_place(digest).is_none() {
@@ -93,6 +97,8 @@ fn bring_missing<L: Ledger, P: CellPort>(
     ensures ok { OnOk result (IsThere who digest.now (P.view port.old) (P.view port.new)) }
     ensures err { IfErr result (TreeStops who digest.now false (P.view port.old) (P.view port.new)) }
     ensures lawful { IsLawful (P.view port.old) (P.view port.new) }
+    ensures order { OnOk result (IsVisited (primary up.now.tables) who digest.now (P.view port.old) (P.view port.new) true) }
+    ensures order_so_far { OnErr result (IsVisitedInPart (primary up.now.tables) who digest.now (P.view port.old) (P.view port.new)) }
 {
     let mut steps: Steps<L> = Steps::new(blank);
     if seek(port, who, digest, &mut steps)?.is_none() {
@@ -151,6 +157,8 @@ fn bring_tree<L: Ledger, P: CellPort>(
     ensures ok { OnOk result (HasTreeIn who root.digest (P.view port.old) (P.view port.new)) }
     ensures err { IfErr result (TreeStops who root.digest true (P.view port.old) (P.view port.new)) }
     ensures lawful { IsLawful (P.view port.old) (P.view port.new) }
+    ensures order { OnOk result (IsVisited (primary up.now.tables) who root.digest (P.view port.old) (P.view port.new) true) }
+    ensures order_so_far { OnErr result (IsVisitedInPart (primary up.now.tables) who root.digest (P.view port.old) (P.view port.new)) }
 {
     let mut waiting: Vec<Open> = Vec::new(alloc);
     let mut top = root;

@@ -1,17 +1,18 @@
 // Writing one object whose references are filled.
-ghost use Rattle.std.specs.Prelude.{◌≡◌, ◌≤◌, Some, length, map, IfOk, IfErr, OnErr};
+ghost use Rattle.std.specs.Prelude.{◌≡◌, ◌≤◌, Some, length, map, IfOk, IfErr, OnOk, OnErr};
 ghost use Rattle.cas_model.specs.Content.{content_size, content_words};
 ghost use Rattle.cas_history.specs.Cost.{object_cost};
-ghost use Rattle.cell_port.specs.Blank.{none_written};
-ghost use Rattle.cell_port.specs.Calls.{IsLawful};
+ghost use Rattle.cas_port.specs.Blank.{none_written};
+ghost use Rattle.cas_port.specs.Calls.{IsLawful};
 ghost use Rattle.graph_db.specs.Events.{SpeaksFor};
 ghost use Rattle.graph_db.specs.Parts.{IsOpenAlone};
+ghost use Rattle.fault_in.specs.Order.{FillsLast, IsQuiet};
 ghost use Rattle.fault_in.specs.Parts.{AsksAtMost, HasBrought, BringStops, HasWords, IsReady};
 
 use cas_model::{
     Digest, Note, Object, Place, Space, Stage, Who, content_length, data_word, head_word,
 };
-use cell_port::{Block, CellPort, PortError, Steps};
+use cas_port::{Block, CellPort, PortError, Steps};
 use std::sync::ledger::Ledger;
 
 // Binds the digest, claims the content, writes it and fills it in. It answers the digest's record.
@@ -31,6 +32,8 @@ pub(crate) fn bring<L: Ledger, P: CellPort>(
     ensures err { IfErr result (BringStops who digest.now object.now (P.view port.old) (P.view port.new)) }
     ensures lawful { IsLawful (P.view port.old) (P.view port.new) }
     ensures cost { AsksAtMost who (object_cost object.now) (P.view port.old) (P.view port.new) }
+    ensures last { OnOk result (FillsLast (P.view port.old).start who digest.now (P.view port.old).seen (P.view port.new).seen) }
+    ensures quiet { OnErr result (IsQuiet who (P.view port.old).seen (P.view port.new).seen) }
 {
     let note = Note {
         who,

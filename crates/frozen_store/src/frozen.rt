@@ -10,12 +10,15 @@ ghost use Rattle.cas_model.specs.declared.place.Space.TheVariants.{Objects};
 ghost use Rattle.region_core.specs.Builds.{empty_region};
 ghost use Rattle.cas_model.specs.Claims.{contents_claims, Fit};
 ghost use Rattle.region_core.specs.Claims.{Refuses};
+ghost use Rattle.region_core.specs.Places.{LieInOrder};
+ghost use Rattle.frozen_store.specs.Bound.{BindsItsRecords, BindsOnPaths, BindsWithCells};
 ghost use Rattle.frozen_store.specs.Lists.{AreContentsOf};
 ghost use Rattle.frozen_store.specs.Seen.{HasState, IsBoundAt, IsSeen, place_in};
 
 use crate::listing::{keys_of, objects_of};
 use crate::reading::object_at;
-use crate::walk::{filled_records, words_fit};
+use crate::tally::count_filled;
+use crate::walk::words_fit;
 use cas_model::{Contents, Digest, Object, Pair, Place, Space, Upstream};
 use region_core::{BuildError, build, empty_words, look, record_digest};
 use std::alloc::{AllocError, Global};
@@ -28,7 +31,11 @@ pub struct Counts {
     pub actions: u64,
 }
 
-/// The words below the counter of a region that no longer changes.
+/// The words below the counter of a region that no longer changes: a generation, as it is read.
+///
+/// One is held for as long as its objects are read, by any number of readers at once, since no call changes it. It never
+/// grows: what a store adds goes to a port that was opened at its contents, and is a closed region of its own when that
+/// ends. It ends with its owner, and borrows nothing.
 #[derive(Drop)]
 pub struct Frozen {
     words: Vec<u64>,
@@ -165,35 +172,52 @@ impl Frozen {
         let _words = self.words.len();
     }
 
-    /// The closed region of these words, which stand for a state. It lists the filled records to count them, and
-    /// fails where there is no memory for that.
+    /// What `look` answers, by the words alone: a digest is bound to a place just where a slot of the trie names its
+    /// record there, whether or not the record's cell is filled. The slot lies on the digest's path, and the cell is the
+    /// record's last word. The body does nothing.
+    pub fn bindings(&self)
+        ensures records { BindsItsRecords self.now }
+        ensures paths { BindsOnPaths self.now }
+        ensures cells { BindsWithCells self.now }
+    {
+        let _words = self.words.len();
+    }
+
+    /// The closed region of these words, which stand for a state. It counts the filled records, and takes no memory.
+    pub fn of_closed(words: Vec<u64>) -> Frozen
+        requires { HasState words.items }
+        ensures { result.words ≡ words.items }
+    {
+        let list = words.as_slice();
+        words_fit(list);
+        let objects = count_filled(list, Space::Objects);
+        let actions = count_filled(list, Space::Actions);
+        let counts = Counts { objects, actions };
+        Frozen { words, counts }
+    }
+
+    /// The closed region of these words, which stand for a state, as `of_closed` makes it: it takes no memory.
     pub fn of_words(alloc: Global, words: Vec<u64>) -> Result<Frozen, AllocError>
         requires { HasState words.items }
         ensures { IfOk result (λ frozen. frozen.words ≡ words.items) }
     {
-        let list = words.as_slice();
-        words_fit(list);
-        let objects = filled_records(alloc, list, Space::Objects)?;
-        let actions = filled_records(alloc, list, Space::Actions)?;
-        let counts = Counts {
-            objects: objects.len() as u64,
-            actions: actions.len() as u64,
-        };
-        Ok(Frozen { words, counts })
+        Ok(Frozen::of_closed(words))
     }
 
-    /// The closed region of this size that holds just these contents, in their order. It fails as `build` does.
+    /// The closed region of this size that holds just these contents, in their order. Its words are those that `build`
+    /// makes: each block lies at the place behind all the claims before it. It fails as `build` does.
     pub fn of_contents(alloc: Global, contents: &Contents, size: u64) -> Result<Frozen, BuildError>
         requires least { 4096 ≤ size }
         requires most { size ≤ 67108864 }
         requires lawful { AreLawfulContents contents.now.objects.items contents.now.actions.items }
         ensures state { IfOk result (λ frozen. primary frozen.tables ≡ contents_state contents.now.objects.items contents.now.actions.items) }
         ensures size { IfOk result (λ frozen. frozen.tables.size ≡ size) }
+        ensures places { IfOk result (λ frozen. LieInOrder frozen.words contents.now.objects.items contents.now.actions.items) }
         ensures long { IfOk result (λ frozen. length frozen.words ≡ 520 + sum (contents_claims contents.now.objects.items contents.now.actions.items)) }
         ensures refused { IfErr result (λ error. Refuses size 520 (contents_claims contents.now.objects.items contents.now.actions.items) error) }
     {
         let words = build(alloc, contents, size)?;
-        let frozen = Frozen::of_words(alloc, words)?;
+        let frozen = Frozen::of_closed(words);
         frozen.seen();
         Ok(frozen)
     }
@@ -206,7 +230,7 @@ impl Frozen {
         ensures tables { IfOk result (λ frozen. frozen.tables ≡ empty_start size) }
     {
         let words = empty_words(alloc, size)?;
-        let frozen = Frozen::of_words(alloc, words)?;
+        let frozen = Frozen::of_closed(words);
         frozen.seen();
         Ok(frozen)
     }

@@ -4,8 +4,7 @@
 mod frozen;
 mod listing;
 mod reading;
-#[cfg(test)]
-mod tests;
+mod tally;
 mod walk;
 
 pub use frozen::{Counts, Frozen};

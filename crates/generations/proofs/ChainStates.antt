@@ -15,7 +15,7 @@ use Rattle.generations.specs.FolderState.{HasChain, HasState, IsStateOf}
 use Rattle.generations.specs.Laws.{HasNumberedChain, ReadsChain}
 use Rattle.generations.specs.Names.{generation_name}
 use Rattle.generations.specs.Opened.{HasUpstream, IsOpened, IsRead, OpensTo, numbered, primary_number, upstream_number}
-use Rattle.generations.specs.Upstream.{upstream_state}
+use Rattle.unified_cas.specs.Upstream.{upstream_state}
 use Rattle.generations.proofs.ChainLemmas.{highest-once, raised, two-same}
 use Rattle.generations.proofs.FileLemmas.{now-there, other-name, put-other, put-there, still-there, was-there}
 

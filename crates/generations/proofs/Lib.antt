@@ -1,9 +1,3 @@
-pub mod AloneLemmas
-pub mod UnderWay
-pub mod LoadsOver
-pub mod GetsOver
-pub mod PutsOver
-pub mod StoresOver
 pub mod NameLemmas
 pub mod ChainLemmas
 pub mod OpeningLemmas

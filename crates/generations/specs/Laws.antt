@@ -11,7 +11,7 @@ use Rattle.generations.specs.FolderState.{HasChain}
 use Rattle.generations.specs.Names.{generation_name}
 use Rattle.generations.specs.Opened.{IsOpened, primary_number, upstream_number}
 use Rattle.generations.specs.Pruning.{LosesAll, LosesSome}
-use Rattle.generations.specs.Upstream.{upstream_state}
+use Rattle.unified_cas.specs.Upstream.{upstream_state}
 
 -- what was opened has the states and the numbers of the folder's generations
 pub record ReadsChain (files : Files) (opened : Opened) : Type 0 where

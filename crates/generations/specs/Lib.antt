@@ -1,6 +1,6 @@
-pub mod Answers
-pub mod Upstream
-pub mod Over
+pub use Rattle.unified_cas.specs.Answers
+pub use Rattle.unified_cas.specs.Upstream
+pub use Rattle.unified_cas.specs.Over
 pub mod Names
 pub mod Chain
 pub mod FolderState

@@ -1,8 +1,8 @@
 -- What saving a generation leaves.
-use Rattle.std.specs.Prelude.{◌≡◌, ℕ, ◌⊎◌, List}
+use Rattle.std.specs.Prelude.{◌≡◌, ℕ, ◌+◌, ◌≤◌, ◌⊎◌, List}
 use Rattle.std.specs.declared.result.Result.{Result}
 use Rattle.std.specs.declared.result.Result.TheVariants.{Ok, Err}
-use Rattle.cas_outside.specs.Causes.{Rose}
+use Rattle.cas_outside.specs.Causes.{Rose, RoseByOne}
 use Rattle.cas_outside.specs.Folder.{FolderView, Later, PutsFile}
 use Rattle.cas_outside.specs.declared.folder.FolderError.{FolderError}
 use Rattle.cas_outside.specs.declared.folder.FolderError.TheVariants as folder
@@ -25,3 +25,9 @@ pub record Saves (name bytes : List ℕ) (old new : FolderView) (result : Result
   pub later : Later old new
   pub is : new ≡ record old { files = new.files; faults = new.faults; held = new.held; changes = new.changes }
   pub to : SavesTo name bytes old new result
+
+-- the folder counted one change, and for want of memory one at most
+abbrev pub ChangedOnce : FolderView → FolderView → Result (Unit {0}) SaveError → Type 0
+ChangedOnce old new (Ok x) = RoseByOne old.changes new.changes
+ChangedOnce old new (Err FolderFault) = RoseByOne old.changes new.changes
+ChangedOnce old new (Err Memory) = new.changes ≤ old.changes + 1

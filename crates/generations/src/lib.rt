@@ -2,22 +2,13 @@
 //! that keeps them.
 #![tactic(auto)]
 
-mod alone;
 mod chain;
-#[cfg(test)]
-mod folder_tests;
-mod keeping;
 mod laws;
 mod names;
 mod opening;
 mod pruning;
-mod replies;
 mod rotating;
 mod saving;
-mod storing;
-#[cfg(test)]
-mod tests;
-mod unified;
 
 pub use laws::{
     opening_reads_the_chain, pruning_keeps_the_chain, rotating_lowers_the_primary,
@@ -28,4 +19,4 @@ pub use opening::{OpenError, Opened, open_folder};
 pub use pruning::prune;
 pub use rotating::{needs_rotation, rotate};
 pub use saving::{SaveError, save};
-pub use unified::Unified;
+pub use unified_cas::Unified;

@@ -2,7 +2,7 @@
 ghost use Rattle.std.specs.Prelude.{◌≡◌, ◌≤◌, ◌<◌, ◌+◌, ◌↔◌, IsTrue, true};
 ghost use Rattle.generations.specs.Names.{generation_name};
 ghost use Rattle.generations.specs.Rotation.{NeedsRotation};
-ghost use Rattle.generations.specs.Saved.{Saves};
+ghost use Rattle.generations.specs.Saved.{ChangedOnce, Saves};
 
 use crate::saving::{SaveError, save};
 use cas_outside::Folder;
@@ -23,7 +23,8 @@ pub fn needs_rotation(used: u64, limit: Option<u64>, full_seen: bool) -> bool
 
 /// Puts the image of an empty region into the folder as a generation above the primary, whose number is given. From then
 /// on the former primary is the upstream, and its file is as it was. After `FolderFault` the new generation is there or
-/// not, after `Memory` it is not. No other file changes.
+/// not, after `Memory` it is not. No other file changes. The folder counts one change, and after `Memory` one
+/// at most.
 pub fn rotate<F: Folder>(
     alloc: Global,
     folder: &mut F,
@@ -32,7 +33,8 @@ pub fn rotate<F: Folder>(
 ) -> Result<(), SaveError>
     requires locked { (F.view folder.old).locked ≡ true }
     requires room { number < 4294967295 }
-    ensures { Saves (generation_name (number + 1)) empty.now (F.view folder.old) (F.view folder.new) result }
+    ensures saves { Saves (generation_name (number + 1)) empty.now (F.view folder.old) (F.view folder.new) result }
+    ensures once { ChangedOnce (F.view folder.old) (F.view folder.new) result }
 {
     save(alloc, folder, number + 1, empty)
 }

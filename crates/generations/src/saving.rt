@@ -1,7 +1,7 @@
 // A generation's file, written under the folder's lock.
 ghost use Rattle.std.specs.Prelude.{◌≡◌, true};
 ghost use Rattle.generations.specs.Names.{generation_name};
-ghost use Rattle.generations.specs.Saved.{Saves};
+ghost use Rattle.generations.specs.Saved.{ChangedOnce, Saves};
 
 use crate::names::name_of;
 use cas_outside::{Folder, FolderError};
@@ -45,7 +45,8 @@ impl From<AllocError> for SaveError {
 }
 
 /// Writes the image of a generation to its file, whether it was there or not. After `FolderFault` the file has its old
-/// bytes or the new ones, after `Memory` its old ones. No other file changes.
+/// bytes or the new ones, after `Memory` its old ones. No other file changes. The folder counts one change, and
+/// after `Memory` one at most.
 pub fn save<F: Folder>(
     alloc: Global,
     folder: &mut F,
@@ -53,7 +54,8 @@ pub fn save<F: Folder>(
     image: &[u8],
 ) -> Result<(), SaveError>
     requires { (F.view folder.old).locked ≡ true }
-    ensures { Saves (generation_name number) image.now (F.view folder.old) (F.view folder.new) result }
+    ensures saves { Saves (generation_name number) image.now (F.view folder.old) (F.view folder.new) result }
+    ensures once { ChangedOnce (F.view folder.old) (F.view folder.new) result }
 {
     let name = name_of(alloc, number)?;
     folder.replace(&name, image)?;

@@ -20,10 +20,10 @@ use Rattle.cas_model.specs.Primary.{cell_under, cell_at}
 use Rattle.cas_model.specs.Start.{IsFilled, RefsBelow}
 use Rattle.cas_model.specs.State.{State, has}
 use Rattle.cas_model.specs.Tables.{Tables, place_of, cell_of, digest_at, digests_at, digest_of_record, object_of}
-use Rattle.cas_model.proofs.ContentLemmas.{content_places-words, content_bytes-words, content_words-IsContent, AreBytes}
+use Rattle.cas_model.proofs.ContentLemmas.{content_places-words, content_bytes-words, content_words-IsContent, EachIsByte}
 use Rattle.cas_history.specs.declared.event.Act.TheVariants.{Bind, Claim, Room, Fill}
 use Rattle.cas_history.specs.declared.event.Event.{Event}
-use Rattle.cas_history.specs.Conduct.{MayAct, AreThere, missed, is_own, IsContentOf}
+use Rattle.cas_history.specs.Conduct.{MayAct, AreThere, missed, is_own, IsContentOf, IsPart}
 use Rattle.cas_history.specs.Cost.{object_cost}
 use Rattle.cas_history.specs.Answers.{fill_answer}
 use Rattle.cas_history.specs.History.{decided, reply_with, left_by, value_left}
@@ -36,19 +36,21 @@ use Rattle.cas_history.proofs.Under.{IsUnder, under-cases}
 use Rattle.cas_history.proofs.Visible.{cell-has}
 use Rattle.cas_history.proofs.Blocks.{run-named-fits}
 use Rattle.cas_history.proofs.Placed.{placed-run}
-use Rattle.cell_port.specs.declared.block.Block.{Block}
-use Rattle.cell_port.specs.declared.block.Bound.{Bound}
-use Rattle.cell_port.specs.declared.block.Filled.{Filled}
-use Rattle.cell_port.specs.declared.block.OpenBlock.{OpenBlock}
-use Rattle.cell_port.specs.declared.block.PortError.{PortError}
-use Rattle.cell_port.specs.declared.block.PortError.TheVariants as port
-use Rattle.cell_port.specs.Blank.{none_written}
-use Rattle.cell_port.specs.Calls.{event_of, Adds, IsLawful, IsPart, BoundTo, BindRefused, BindFull, HasClaimed, ClaimRefused, IsWholeFill, HasFilled, Abandons, words_of}
-use Rattle.cell_port.specs.View.{View, tables, tables_before, open_words, close_block, IsOpenFor, all_written}
-use Rattle.graph_db.specs.Events.{SpeaksFor, Ends, Stops, seen_state}
-use Rattle.graph_db.specs.Stores.{object_with, own_note, HasNoRoom}
+use Rattle.cas_port.specs.declared.block.Block.{Block}
+use Rattle.cas_port.specs.declared.block.Bound.{Bound}
+use Rattle.cas_port.specs.declared.block.Filled.{Filled}
+use Rattle.cas_port.specs.declared.block.OpenBlock.{OpenBlock}
+use Rattle.cas_port.specs.declared.block.PortError.{PortError}
+use Rattle.cas_port.specs.declared.block.PortError.TheVariants as port
+use Rattle.cas_port.specs.Blank.{none_written}
+use Rattle.cas_port.specs.Calls.{event_of, Adds, IsLawful, BoundTo, BindRefused, BindFull, HasClaimed, ClaimRefused, IsWholeFill, HasFilled, Abandons, words_of}
+use Rattle.cas_port.specs.View.{View, tables, tables_before, open_words, close_block, IsOpenFor, all_written}
+use Rattle.graph_db.specs.Events.{SpeaksFor, Ends, Stops, binds, seen_state}
+use Rattle.graph_db.specs.Stores.{object_with, HasNoRoom}
+use Rattle.cas_model.specs.Notes.{own_note}
 use Rattle.graph_db.specs.Parts.{HasRefs, AreFilled, places_in, place_number, block_of, shut, Writes, WriteStops, Brings, BringStops}
-use Rattle.graph_db.proofs.Steps.{goes-speaks, goes-upstream, goes-takes, goes-opened, missed-more, claims-before, foreign-before, event-ends, event-last, adds-ends, ends-self, ends-then, ends-more, wants-stops, then-stops, stops-more}
+use Rattle.graph_db.proofs.Steps.{goes-speaks, goes-upstream, goes-takes, goes-opened, missed-more, claims-before, foreign-before, event-ends, event-last, adds-ends, ends-then, ends-more, wants-stops, then-stops, stops-more}
+use Rattle.graph_db.proofs.Binds.{bound-once, refused-never, room-never, still-bound}
 use Rattle.graph_db.proofs.Sought.{there-more}
 use Rattle.graph_db.proofs.Found.{goes-grows, refs-stay, refs-there, filled-grows}
 use Rattle.graph_db.proofs.Written.{words_for, length-content, length-places, all_written-some, length-map-some, words-some}
@@ -83,23 +85,24 @@ full-is who o old new before n moved at size is at-is size-is =
     → decided old.upstream (tables_after old.start (before ++ old.seen)) (Store o) ((own_note who).stage) (Room n moved) ≡ Some (reply.Full at n size) in
     subst P (sym is) (λ a s. λ i. Some (reply.Full (sym a i) n (sym s i))) at-is size-is
 
-no-room : (who : Who) (o : Object) (first old new : View) (m : ℕ) (at asked size : ℕ) → m + 997 ≤ object_cost o → SpeaksFor old who → AreThere old.upstream old.start old.seen who 0 o.refs
-    → missed old.start who is_own old.seen ≡ true → Ends who (Store o) None first old m → BindFull (own_note who) old new at asked size → HasNoRoom who o first new at asked size
-no-room who o first old new m at asked size fits mine there missed_it earlier b =
+no-room : (who : Who) (o : Object) (old new : View) (at asked size : ℕ) → SpeaksFor old who → AreThere old.upstream old.start old.seen who 0 o.refs → missed old.start who is_own old.seen ≡ true
+    → BindFull (own_note who) old new at asked size → HasNoRoom who o old new at asked size
+no-room who o old new at asked size mine there missed_it b =
     let says = full-is who o old new b.before asked b.moved at size b.is b.at_is b.size_is in
     let here = event-ends (own_note who) (Store o) (Room asked b.moved) (Some (reply.Full at asked size)) old new b.before (997 - asked) 997
     (claims-before (own_note who) (Store o) old b.before (997 - asked) mine (λ more n part. may-claim who o (object_digest o) old refl there missed_it more n (inl part)) b.claims)
     b.is (let le = b.most in omega (arith, le)) (may-room who o (object_digest o) old refl there missed_it b.before asked b.moved (inl b.part)) says in
     record {
-      ends = ends-more who (Store o) _ first new (m + 997) (object_cost o) fits (ends-then who (Store o) (Some (reply.Full at asked size)) first old new m 997 earlier here);
+      ends = ends-more who (Store o) (Some (reply.Full at asked size)) old new 997 (object_cost o) (omega arith) here;
       last = event-last (own_note who) (Store o) (Room asked b.moved) (Some (reply.Full at asked size)) old new b.before b.is says;
+      claim = inr (record { part = b.part; never = refused-never (own_note who) old new b.before (997 - asked) asked b.moved mine b.claims b.is });
     }
 
 pub bind-stops : (who : Who) (o : Object) (old new : View) (error : PortError) → SpeaksFor old who → HasRefs who o.refs old → missed old.start who is_own old.seen ≡ true
     → BindRefused (own_note who) old new error → BringStops who o old new error
 bind-stops who o old new port.Memory mine refs missed_it wants = wants-stops who (Store o) old new (object_cost o) wants
 bind-stops who o old new (port.Full full) mine refs missed_it b =
-    no-room who o old old new 0 full.at full.asked full.size (omega arith) mine (refs-there who o.refs old refs) missed_it (ends-self who (Store o) old 0) b
+    no-room who o old new full.at full.asked full.size mine (refs-there who o.refs old refs) missed_it b
 
 -- ---- claim
 
@@ -114,15 +117,21 @@ claimed-ends who o n old new block mine there missed_it content c =
     (may-claim who o (object_digest o) old refl there missed_it c.others n (inr content)) refl
 
 room-stops : (who : Who) (o : Object) (n : ℕ) (first old new : View) (error : PortError) (m : ℕ) → m + n ≤ object_cost o → SpeaksFor old who → AreThere old.upstream old.start old.seen who 0 o.refs
-    → missed old.start who is_own old.seen ≡ true → IsContentOf o n → Ends who (Store o) None first old m → ClaimRefused (own_note who) n old new error → BringStops who o first new error
-room-stops who o n first old new port.Memory m fits mine there missed_it content earlier wants =
+    → missed old.start who is_own old.seen ≡ true → IsContentOf o n → Ends who (Store o) None first old m → (place : Place) → place_of (tables old).bound Objects (object_digest o) ≡ Some place
+    → binds who old.seen ≡ binds who first.seen + 1 → IsLawful old new → ClaimRefused (own_note who) n old new error → BringStops who o first new error
+room-stops who o n first old new port.Memory m fits mine there missed_it content earlier place at once lawful wants =
     stops-more who (Store o) first new (m + 0) (object_cost o) (omega (arith, fits)) (then-stops who (Store o) first old new m 0 earlier (wants-stops who (Store o) old new 0 wants))
-room-stops who o n first old new (port.Full full) m fits mine there missed_it content earlier (moved, adds, numbers) =
+room-stops who o n first old new (port.Full full) m fits mine there missed_it content earlier place at once lawful (moved, adds, numbers) =
     let says = full-is who o old new adds.others n moved full.at full.size adds.is (ap (λ (f : Full). f.at) numbers) (ap (λ (f : Full). f.size) numbers) in
     let here = adds-ends (own_note who) (Store o) (Room n moved) (Some (reply.Full full.at n full.size)) old new n mine adds (omega arith) (may-room who o (object_digest o) old refl there missed_it adds.others n moved (inr content)) says in
     subst (λ k. HasNoRoom who o first new full.at k full.size) (sym (ap (λ (f : Full). f.asked) numbers)) (record {
       ends = ends-more who (Store o) _ first new (m + n) (object_cost o) fits (ends-then who (Store o) (Some (reply.Full full.at n full.size)) first old new m n earlier here);
       last = event-last (own_note who) (Store o) (Room n moved) (Some (reply.Full full.at n full.size)) old new adds.others adds.is says;
+      claim = inl (record {
+        content = content;
+        bound = still-bound (object_digest o) place (event_of (own_note who) (Room n moved)) old new adds lawful.is at;
+        once = room-never (own_note who) n moved old new mine adds ∙ once;
+      });
     })
 
 -- ---- the references lie below the claimed block
@@ -172,7 +181,7 @@ digests-back s (d ∷ ds) sound filled = step (digests-back s ds sound filled.1)
       λ i. here i ∷ rest i
 
 -- the words describe the object
-object-content : (s : Tables) (refs : List Digest) (bytes : List ℕ) → length bytes ≤ 16777215 → AreBytes bytes → IsSound s → AreFilled s refs
+object-content : (s : Tables) (refs : List Digest) (bytes : List ℕ) → length bytes ≤ 16777215 → EachIsByte bytes → IsSound s → AreFilled s refs
     → object_of s.bound (words_for s refs bytes) ≡ object_with refs bytes
 object-content s refs bytes short ok sound filled =
     let p : content_places (words_for s refs bytes) ≡ places_in s refs = content_places-words (places_in s refs) bytes (omega arith) in
@@ -249,16 +258,17 @@ begun who refs bytes digest old b claimed bound block mine is there missed_it bd
     }
 
 pub claim-stops : (who : Who) (refs : List Digest) (bytes : List ℕ) (digest : Digest) (old b new : View) (bound : Bound) (error : PortError) → SpeaksFor old who → digest ≡ digest_of refs bytes → HasRefs who refs old
-    → missed old.start who is_own old.seen ≡ true → BoundTo (own_note who) Objects digest old b bound → IsLawful old b → ClaimRefused (own_note who) (content_size (length refs) (length bytes)) b new error
+    → missed old.start who is_own old.seen ≡ true → BoundTo (own_note who) Objects digest old b bound → IsLawful old b → IsLawful b new → ClaimRefused (own_note who) (content_size (length refs) (length bytes)) b new error
     → BringStops who (object_with refs bytes) old new error
-claim-stops who refs bytes digest old b new bound error mine is there missed_it bd lawful-b refused =
+claim-stops who refs bytes digest old b new bound error mine is there missed_it bd lawful-b lawful-new refused =
     let o : Object = object_with refs bytes in
     let n : ℕ = content_size (length refs) (length bytes) in
     let first = bound-ends who o digest old b bound mine is (refs-there who refs old there) missed_it bd in
     let mine-b = goes-speaks who who old b first.goes mine in
     let there-b = refs-stay who who refs old b first.goes lawful-b.is there in
     let missed-b = subst (λ (v : View). missed v.start who is_own v.seen ≡ true) (sym first.goes.is) (missed-more old.start who is_own first.goes.more old.seen missed_it) in
-    room-stops who o n old b new error 997 (omega arith) mine-b (refs-there who refs b there-b) missed-b refl first refused
+    let at : place_of (tables b).bound Objects (digest_of refs bytes) ≡ Some bound.place = subst (λ (d : Digest). place_of (tables b).bound Objects d ≡ Some bound.place) is bd.answer in
+    room-stops who o n old b new error 997 (omega arith) mine-b (refs-there who refs b there-b) missed-b refl first bound.place at (bound-once (own_note who) Objects digest old b bound mine bd) lawful-new refused
 
 -- ---- fill
 
@@ -297,7 +307,7 @@ fill-under s cell value words d at some =
     subst (λ (p : Option Place). 0 < cell_at t.filled p) (sym place) (fill-filled s cell value words some)
 
 module _ (who : Who) (refs : List Digest) (bytes : List ℕ) (digest : Digest) (old claimed v : View) (cell : Place) (block : Block)
-    (is : digest ≡ digest_of refs bytes) (few : length refs ≤ 65535) (short : length bytes ≤ 16777215) (ok : AreBytes bytes) (lacks : fin.get old.upstream.objects digest ≡ None)
+    (is : digest ≡ digest_of refs bytes) (few : length refs ≤ 65535) (short : length bytes ≤ 16777215) (ok : EachIsByte bytes) (lacks : fin.get old.upstream.objects digest ≡ None)
     (b : Began who refs bytes digest old claimed cell block) (lawful : IsLawful claimed v)
     (writes : Writes who (object_with refs bytes) claimed v block (map Some (words_for (tables claimed) refs bytes))) where
   grows-v : Grows (tables claimed) (tables v)

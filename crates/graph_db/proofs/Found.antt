@@ -26,11 +26,12 @@ use Rattle.cas_history.specs.Run.{tables as tables_after}
 use Rattle.cas_history.proofs.Grown.{Grows, grows-more}
 use Rattle.cas_history.proofs.Sound.{IsSound, sound-run}
 use Rattle.cas_history.proofs.Visible.{cell-has}
-use Rattle.cell_port.specs.Calls.{IsLawful}
-use Rattle.cell_port.specs.View.{View, tables}
+use Rattle.cas_port.specs.Calls.{IsLawful}
+use Rattle.cas_port.specs.View.{View, tables}
 use Rattle.graph_db.specs.Events.{Goes, Reads, Stands, Ends, Last, Stops}
 use Rattle.graph_db.specs.Holds.{MaySeek, HasSought, SeekStops}
-use Rattle.graph_db.specs.Stores.{object_with, ref_note, IsDangling}
+use Rattle.graph_db.specs.Stores.{object_with, IsDangling}
+use Rattle.cas_model.specs.Notes.{ref_note}
 use Rattle.graph_db.specs.Parts.{HasSoughtValue, IsLawfulOrSame, AreFilled, HasRefs, FindsFirst}
 use Rattle.graph_db.proofs.Steps.{reads-self, reads-then, reads-goes, ends-self, ends-then, goes-upstream, goes-opened, lawful-then, then-stops, stops-more}
 use Rattle.graph_db.proofs.Sought.{found-more}
@@ -100,7 +101,7 @@ ref-says : (up : State) (s : Tables) (refs : List Digest) (i : ℕ) (d : Digest)
 ref-says up s refs i d act found at miss =
     ap (λ (o : Option Digest). dangling up s i o act) at ∙ ap (λ b. reply_where (b && not (has up d)) (Dangling i d)) miss
 
-same-self : (who : Who) → same_who who who ≡ true
+pub same-self : (who : Who) → same_who who who ≡ true
 same-self who = ap (λ b. b && (who.index == who.index)) (eq-eqb who.session who.session refl) ∙ eq-eqb who.index who.index refl
 
 -- an event of the stage that missed, or that read a filled cell

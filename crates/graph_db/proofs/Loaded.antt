@@ -28,10 +28,10 @@ use Rattle.cas_history.specs.History.{decided_at, loaded, reply_where}
 use Rattle.cas_history.specs.Run.{tables as tables_after}
 use Rattle.cas_history.proofs.Sound.{IsSound, sound-run}
 use Rattle.cas_history.proofs.Under.{IsUnder, under-cases, under-some}
-use Rattle.cell_port.specs.Calls.{IsLawful, HasWord, WordIs, digest_word}
-use Rattle.cell_port.specs.View.{View, tables}
+use Rattle.cas_port.specs.Calls.{IsLawful, HasWord, WordIs, digest_word}
+use Rattle.cas_port.specs.View.{View, tables}
 use Rattle.graph_db.specs.Holds.{HasSought, SeekStops}
-use Rattle.graph_db.specs.Stores.{own_note}
+use Rattle.cas_model.specs.Notes.{own_note}
 use Rattle.graph_db.specs.Loads.{HasFound, IsMissing, LoadStops}
 use Rattle.graph_db.specs.Parts.{HasSoughtValue, words_or, content_at, IsWholeRecord, AreWholeRecords, HasContent}
 use Rattle.graph_db.proofs.Steps.{goes-upstream, reads-goes}

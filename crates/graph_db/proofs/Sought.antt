@@ -30,8 +30,8 @@ use Rattle.cas_history.proofs.Grown.{grows-more}
 use Rattle.cas_history.proofs.Sound.{IsSound, sound-run}
 use Rattle.cas_history.proofs.Under.{under-none}
 use Rattle.cas_history.proofs.Visible.{cell-has}
-use Rattle.cell_port.specs.Calls.{event_of, WantsMemory, IsLawful, Looked, HasRead, HasRecord}
-use Rattle.cell_port.specs.View.{View, tables, Foreign}
+use Rattle.cas_port.specs.Calls.{event_of, WantsMemory, IsLawful, Looked, HasRead, HasRecord}
+use Rattle.cas_port.specs.View.{View, tables, Foreign}
 use Rattle.graph_db.specs.Events.{SpeaksFor, Reads, Stands}
 use Rattle.graph_db.specs.Holds.{MaySeek, SeekStops}
 use Rattle.graph_db.specs.Parts.{HasSoughtValue}

@@ -14,15 +14,15 @@ use Rattle.cas_model.specs.Tables.{Tables}
 use Rattle.cas_history.specs.declared.event.Act.{Act}
 use Rattle.cas_history.specs.declared.event.Act.TheVariants.{Look, Bind, Read, Claim, Room, Fill}
 use Rattle.cas_history.specs.declared.event.Event.{Event}
-use Rattle.cas_history.specs.Conduct.{CallOpen, MayAct, same_who, missed}
+use Rattle.cas_history.specs.Conduct.{CallOpen, MayAct, same_who, missed, IsPart}
 use Rattle.cas_history.specs.Cost.{asked, asked_by}
 use Rattle.cas_history.specs.History.{history, decided, count_of, with_event, with_entry, is_miss}
 use Rattle.cas_history.specs.Laws.{AreOfOtherSessions}
 use Rattle.cas_history.specs.Run.{tables as tables_after}
 use Rattle.cas_history.proofs.Others.{others-leave, events-keep}
-use Rattle.cell_port.specs.declared.block.OpenBlock.{OpenBlock}
-use Rattle.cell_port.specs.Calls.{event_of, Adds, WantsMemory, BindClaims, IsPart, IsLawful}
-use Rattle.cell_port.specs.View.{View, Foreign}
+use Rattle.cas_port.specs.declared.block.OpenBlock.{OpenBlock}
+use Rattle.cas_port.specs.Calls.{event_of, Adds, WantsMemory, BindClaims, IsLawful}
+use Rattle.cas_port.specs.View.{View, Foreign}
 use Rattle.graph_db.specs.Events.{SpeaksFor, AreOf, Goes, is_reading, AreReadings, Reads, Last, Stands, Ends, Stops}
 
 -- ---- whose events they are
@@ -104,7 +104,7 @@ pub foreign-others : (speaks : ℕ → Bool) (session : ℕ) (es : List Event) �
 foreign-others speaks session [] mine foreign = tt
 foreign-others speaks session (e ∷ es) mine foreign = (not-same speaks e.note.who.session session foreign.0 mine, foreign-others speaks session es mine foreign.1)
 
-other-who : (speaks : ℕ → Bool) (him who : Who) → speaks him.session ≡ false → speaks who.session ≡ true → same_who him who ≡ false
+pub other-who : (speaks : ℕ → Bool) (him who : Who) → speaks him.session ≡ false → speaks who.session ≡ true → same_who him who ≡ false
 other-who speaks him who no_ yes_ = step (him.session == who.session) refl where
   step : (b : Bool) → (him.session == who.session) ≡ b → (b && (him.index == who.index)) ≡ false
   step true test = absurd (not-same speaks him.session who.session no_ yes_ (eqb-true him.session who.session test))

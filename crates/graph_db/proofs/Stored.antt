@@ -1,5 +1,5 @@
 -- A store from its first look to its answer.
-use Rattle.std.proofs.Common.{◌≡◌, ℕ, zero, suc, ◌+◌, List, true, false, not, ◌==◌, None, Some, is_some, refl, ap, sym, ◌∙◌, subst, arith}
+use Rattle.std.proofs.Common.{◌≡◌, ℕ, zero, suc, ◌+◌, List, true, false, not, ◌⊎◌, inl, inr, ◌==◌, None, Some, is_some, refl, ap, sym, ◌∙◌, subst, arith}
 use Rattle.std.specs.declared.option.Option.{Option}
 use Rattle.std.specs.FinMap as fin
 use Rattle.cas_model.specs.declared.call.Call.TheVariants.{Store}
@@ -16,15 +16,17 @@ use Rattle.cas_history.specs.History.{decided_at, reply_with}
 use Rattle.cas_history.specs.Run.{tables as tables_after}
 use Rattle.cas_history.proofs.Sound.{sound-run}
 use Rattle.cas_history.proofs.Visible.{has-stays}
-use Rattle.cell_port.specs.declared.block.PortError.{PortError}
-use Rattle.cell_port.specs.declared.block.PortError.TheVariants as port
-use Rattle.cell_port.specs.Calls.{IsLawful}
-use Rattle.cell_port.specs.View.{View, tables}
-use Rattle.graph_db.specs.Events.{SpeaksFor, IsBrought, Ends, Last, Stops, seen_state}
+use Rattle.cas_port.specs.declared.block.PortError.{PortError}
+use Rattle.cas_port.specs.declared.block.PortError.TheVariants as port
+use Rattle.cas_port.specs.Calls.{IsLawful}
+use Rattle.cas_port.specs.View.{View, tables}
+use Rattle.graph_db.specs.Events.{SpeaksFor, IsBrought, Ends, Last, Stops, binds, seen_state}
 use Rattle.graph_db.specs.Errors.{store_error}
 use Rattle.graph_db.specs.Holds.{MaySeek, HasSought, SeekStops}
-use Rattle.graph_db.specs.Stores.{object_with, own_note, HasStored, IsRefused}
+use Rattle.graph_db.specs.Stores.{object_with, HasStored, IsForContent, IsForPart, IsRefused}
+use Rattle.cas_model.specs.Notes.{own_note}
 use Rattle.graph_db.specs.Parts.{HasSoughtValue, IsLawfulOrSame, HasRefs, FindsRefs, Brings, BringStops}
+use Rattle.graph_db.proofs.Binds.{reads-never}
 use Rattle.graph_db.proofs.Steps.{goes-speaks, goes-upstream, reads-goes, ends-then, ends-more, then-stops, stops-more}
 use Rattle.graph_db.proofs.Found.{refs-there, refs-stay, goes-grows, sought-ends, sought-last, missed-here, seek-stops, lawful-same-then, not-zero-test}
 
@@ -97,12 +99,22 @@ module _ (who : Who) (refs : List Digest) (bytes : List ℕ) (digest : Digest) (
           last = subst (λ (d : Digest). Last (own_note who) (Store o) (Some (reply.Stored d)) new) (sym is) b.last;
         }
 
-    pub bring-refused : (new : View) (e : PortError) → BringStops who (object_with refs bytes) now new e → IsRefused who (object_with refs bytes) old new (store_error e)
-    bring-refused new port.Memory s =
+    -- looking has bound nothing
+    miss-never : SpeaksFor old who → binds who now.seen ≡ binds who old.seen
+    miss-never mine = reads-never who mid now (goes-speaks who who old mid (reads-goes who old mid first.reads) mine) v.sought.reads ∙ reads-never who old mid mine first.reads
+
+    refused-claim : (new : View) (asked : ℕ) → SpeaksFor old who → IsForContent who (object_with refs bytes) now new asked ⊎ IsForPart who now new asked
+        → IsForContent who (object_with refs bytes) old new asked ⊎ IsForPart who old new asked
+    refused-claim new asked mine (inl c) = inl (record { content = c.content; bound = c.bound; once = c.once ∙ ap (λ n. n + 1) (miss-never mine) })
+    refused-claim new asked mine (inr p) = inr (record { part = p.part; never = p.never ∙ miss-never mine })
+
+    pub bring-refused : (new : View) (e : PortError) → SpeaksFor old who → BringStops who (object_with refs bytes) now new e → IsRefused who (object_with refs bytes) old new (store_error e)
+    bring-refused new port.Memory mine s =
         stops-more who (Store (object_with refs bytes)) old new (0 + 0 + object_cost (object_with refs bytes)) (object_cost (object_with refs bytes)) (omega arith)
         (then-stops who (Store (object_with refs bytes)) old now new (0 + 0) (object_cost (object_with refs bytes)) miss-ends s)
-    bring-refused new (port.Full full) s = record {
+    bring-refused new (port.Full full) mine s = record {
       ends = ends-more who (Store (object_with refs bytes)) (Some (reply.Full full.at full.asked full.size)) old new (0 + 0 + object_cost (object_with refs bytes)) (object_cost (object_with refs bytes)) (omega arith)
           (ends-then who (Store (object_with refs bytes)) (Some (reply.Full full.at full.asked full.size)) old now new (0 + 0) (object_cost (object_with refs bytes)) miss-ends s.ends);
       last = s.last;
+      claim = refused-claim new full.asked mine s.claim;
     }

@@ -17,14 +17,15 @@ use Rattle.cas_model.specs.Primary.{cell_under, cell_at}
 use Rattle.cas_model.specs.Tables.{Tables, place_of}
 use Rattle.cas_history.specs.declared.event.Event.{Event}
 use Rattle.cas_history.proofs.Grown.{Grows}
-use Rattle.cell_port.specs.declared.block.Block.{Block}
-use Rattle.cell_port.specs.declared.block.OpenBlock.{OpenBlock}
-use Rattle.cell_port.specs.Blank.{none_written}
-use Rattle.cell_port.specs.Calls.{Adds, IsLawful, IsOpen, HasWritten, Looked, WantsMemory}
-use Rattle.cell_port.specs.View.{View, tables, open_words, write_word, all_written}
+use Rattle.cas_port.specs.declared.block.Block.{Block}
+use Rattle.cas_port.specs.declared.block.OpenBlock.{OpenBlock}
+use Rattle.cas_port.specs.Blank.{none_written}
+use Rattle.cas_port.specs.Calls.{Adds, IsLawful, IsOpen, HasWritten, Looked, WantsMemory}
+use Rattle.cas_port.specs.View.{View, tables, open_words, write_word, all_written}
 use Rattle.graph_db.specs.Events.{SpeaksFor, Ends}
 use Rattle.graph_db.specs.Holds.{MaySeek}
-use Rattle.graph_db.specs.Stores.{object_with, ref_note}
+use Rattle.graph_db.specs.Stores.{object_with}
+use Rattle.cas_model.specs.Notes.{ref_note}
 use Rattle.graph_db.specs.Parts.{HasRefs, AreFilled, places_in, place_number, partly, block_of, IsOpenAlone, shut, Writes, WriteStops}
 use Rattle.graph_db.proofs.Steps.{ends-self, ends-then, reads-goes, goes-speaks, goes-takes, asked-readings}
 use Rattle.graph_db.proofs.Sought.{looked-reads, looked-stands}

@@ -1,6 +1,6 @@
 -- What a call adds to what its port has seen, and what it decides.
 -- Events are listed with the newest first.
-use Rattle.std.specs.Prelude.{◌≡◌, ℕ, suc, ◌+◌, ◌≤◌, List, [], ◌∷◌, ◌++◌, Bool, true, false, ◌⊎◌, IsTrue, Some, None}
+use Rattle.std.specs.Prelude.{◌≡◌, ℕ, suc, ◌+◌, ◌≤◌, List, [], ◌∷◌, ◌++◌, Bool, true, false, cond, ◌&&◌, ◌⊎◌, IsTrue, Some, None}
 use Rattle.std.specs.declared.option.Option.{Option}
 use Rattle.cas_model.specs.declared.call.Call.{Call}
 use Rattle.cas_model.specs.declared.call.Reply.{Reply}
@@ -13,13 +13,13 @@ use Rattle.cas_model.specs.Tables.{Tables}
 use Rattle.cas_history.specs.declared.event.Act.{Act}
 use Rattle.cas_history.specs.declared.event.Act.TheVariants.{Look, Bind, Read, Claim, Room, Fill}
 use Rattle.cas_history.specs.declared.event.Event.{Event}
-use Rattle.cas_history.specs.Conduct.{CallOpen, HasConduct}
+use Rattle.cas_history.specs.Conduct.{CallOpen, HasConduct, same_who}
 use Rattle.cas_history.specs.Cost.{asked}
 use Rattle.cas_history.specs.History.{history, decided, count_of}
 use Rattle.cas_history.specs.Run.{tables as tables_after, primary_of}
-use Rattle.cell_port.specs.declared.block.OpenBlock.{OpenBlock}
-use Rattle.cell_port.specs.Calls.{event_of}
-use Rattle.cell_port.specs.View.{View}
+use Rattle.cas_port.specs.declared.block.OpenBlock.{OpenBlock}
+use Rattle.cas_port.specs.Calls.{event_of}
+use Rattle.cas_port.specs.View.{View}
 
 -- the port speaks for the call's session
 abbrev pub SpeaksFor : View → Who → Type 0
@@ -65,6 +65,22 @@ pub record Reads (who : Who) (old new : View) : Type 0 where
   pub more : List Event
   pub is : new ≡ record old { seen = more ++ old.seen }
   pub own : AreReadings old.speaks who more
+
+-- ---- what a call binds
+
+-- a bind
+abbrev pub is_bind : Act → Bool
+is_bind (Bind space digest own) = true
+is_bind (Look space digest) = false
+is_bind (Read cell) = false
+is_bind (Claim n) = false
+is_bind (Room n moved) = false
+is_bind (Fill cell value words) = false
+
+-- how often the call bound a digest
+abbrev pub binds : Who → List Event → ℕ
+binds who [] = 0
+binds who (e ∷ earlier) = cond (same_who e.note.who who && is_bind e.act) 1 0 + binds who earlier
 
 -- ---- what a call decides
 

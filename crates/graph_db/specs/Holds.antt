@@ -14,8 +14,8 @@ use Rattle.cas_history.specs.Conduct.{CallOpen, IsAbout, MayAct}
 use Rattle.cas_history.specs.Cost.{asked}
 use Rattle.cas_history.specs.History.{decided, decided_at, is_miss, read_by}
 use Rattle.cas_history.specs.Run.{tables as tables_after}
-use Rattle.cell_port.specs.Calls.{event_of}
-use Rattle.cell_port.specs.View.{View}
+use Rattle.cas_port.specs.Calls.{event_of}
+use Rattle.cas_port.specs.View.{View}
 use Rattle.graph_db.specs.Events.{Reads, Stands, seen_state}
 
 -- the call may look for the object in what the port has seen: its conduct allows that look at the note's stage, and then a read of the record

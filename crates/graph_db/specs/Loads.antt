@@ -10,9 +10,9 @@ use Rattle.cas_model.specs.declared.object.Object.{Object}
 use Rattle.cas_model.specs.State.{has}
 use Rattle.cas_history.specs.Conduct.{missed, is_own}
 use Rattle.cas_history.specs.History.{reply_where}
-use Rattle.cell_port.specs.View.{View}
+use Rattle.cas_port.specs.View.{View}
 use Rattle.graph_db.specs.Events.{Ends, Last, Reads, Stops, seen_state}
-use Rattle.graph_db.specs.Stores.{own_note}
+use Rattle.cas_model.specs.Notes.{own_note}
 
 -- the call is decided by Found of the primary's object
 pub record HasFound (who : Who) (digest : Digest) (old new : View) (o : Object) : Type 0 where

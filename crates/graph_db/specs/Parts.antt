@@ -19,16 +19,17 @@ use Rattle.cas_history.specs.Conduct.{found_ref}
 use Rattle.cas_history.specs.Cost.{object_cost}
 use Rattle.cas_history.specs.History.{left_by, read_by}
 use Rattle.cas_history.specs.Run.{tables as tables_after}
-use Rattle.cell_port.specs.declared.block.Block.{Block}
-use Rattle.cell_port.specs.declared.block.OpenBlock.{OpenBlock}
-use Rattle.cell_port.specs.declared.block.PortError.{PortError}
-use Rattle.cell_port.specs.declared.block.PortError.TheVariants as port
-use Rattle.cell_port.specs.Calls.{IsLawful}
-use Rattle.cell_port.specs.View.{View, tables}
+use Rattle.cas_port.specs.declared.block.Block.{Block}
+use Rattle.cas_port.specs.declared.block.OpenBlock.{OpenBlock}
+use Rattle.cas_port.specs.declared.block.PortError.{PortError}
+use Rattle.cas_port.specs.declared.block.PortError.TheVariants as port
+use Rattle.cas_port.specs.Calls.{IsLawful}
+use Rattle.cas_port.specs.View.{View, tables}
 use Rattle.graph_db.specs.declared.error.StoreError.{StoreError}
 use Rattle.graph_db.specs.Events.{Ends, Last, Reads, Stops, seen_state}
 use Rattle.graph_db.specs.Holds.{HasSought}
-use Rattle.graph_db.specs.Stores.{own_note, object_with, HasNoRoom, IsRefused}
+use Rattle.graph_db.specs.Stores.{object_with, HasNoRoom, IsRefused}
+use Rattle.cas_model.specs.Notes.{own_note}
 
 -- ---- looking for an object
 

@@ -2,17 +2,21 @@
 ghost use Rattle.std.specs.Prelude.{◌≡◌};
 
 use cas_model::{Digest, Full};
-use cell_port::PortError;
+use cas_port::PortError;
 use std::alloc::AllocError;
+use thiserror::Error;
 
 /// Why an object is not stored. The kinds are this project's own.
-#[derive(Clone, Copy, Debug, PartialEq, Eq)]
+#[derive(Clone, Copy, Debug, PartialEq, Eq, Drop, Error)]
 pub enum StoreError {
     /// The reference at this index, counted from 0, is the first that the primary lacks.
+    #[error("reference {index} is to an object that is not there")]
     Dangling { index: u32, digest: Digest },
     /// A claim was refused, with the numbers that it found.
+    #[error("{0}")]
     Full(Full),
     /// The port wanted memory.
+    #[error("no memory")]
     Memory,
 }
 

@@ -5,8 +5,6 @@ mod error;
 mod loading;
 mod seeking;
 mod storing;
-#[cfg(test)]
-mod tests;
 
 pub use error::StoreError;
 pub use loading::{load, record_digest};

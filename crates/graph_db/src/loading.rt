@@ -2,15 +2,15 @@
 ghost use Rattle.std.specs.Prelude.{◌≡◌, ◌+◌, ◌%◌, ◌^◌, IfOk, OnErr, length, slice_index};
 ghost use Rattle.cas_model.specs.Content.{content_bytes, content_places};
 ghost use Rattle.cas_model.specs.Tables.{digest_at, digests_at, object_of};
-ghost use Rattle.cell_port.specs.Calls.{IsLawful};
-ghost use Rattle.cell_port.specs.View.{tables};
+ghost use Rattle.cas_port.specs.Calls.{IsLawful};
+ghost use Rattle.cas_port.specs.View.{tables};
 ghost use Rattle.graph_db.specs.Events.{SpeaksFor};
 ghost use Rattle.graph_db.specs.Loads.{HasLoaded, LoadStops};
 ghost use Rattle.graph_db.specs.Parts.{HasContent, IsWholeRecord, content_at};
 
 use crate::seeking::seek;
 use cas_model::{Data, Digest, Note, Object, Place, Refs, Stage, Who, split_head};
-use cell_port::{CellPort, Steps};
+use cas_port::{CellPort, Steps};
 use std::alloc::{AllocError, Global};
 use std::marker::Brand;
 use std::sync::ledger::{Blank, Ledger};

@@ -1,11 +1,11 @@
 // Looking for an object.
 ghost use Rattle.std.specs.Prelude.{◌≡◌, IfOk, OnErr};
-ghost use Rattle.cell_port.specs.Calls.{IsLawful, Speaks};
+ghost use Rattle.cas_port.specs.Calls.{IsLawful, Speaks};
 ghost use Rattle.graph_db.specs.Holds.{HasSought, SeekStops};
 ghost use Rattle.graph_db.specs.Parts.{HasSoughtValue};
 
 use cas_model::{Digest, Note, Space};
-use cell_port::{CellPort, Steps};
+use cas_port::{CellPort, Steps};
 use std::alloc::AllocError;
 use std::marker::Brand;
 use std::sync::ledger::{Blank, Ledger};

@@ -6,9 +6,9 @@ ghost use Rattle.cas_model.specs.Object.{digest_of};
 ghost use Rattle.cas_model.specs.Tables.{place_of};
 ghost use Rattle.cas_model.specs.declared.place.Space.TheVariants.{Objects};
 ghost use Rattle.cas_history.specs.Conduct.{is_own, missed};
-ghost use Rattle.cell_port.specs.Blank.{none_written};
-ghost use Rattle.cell_port.specs.Calls.{IsLawful, Looked, Speaks, WantsMemory};
-ghost use Rattle.cell_port.specs.View.{tables};
+ghost use Rattle.cas_port.specs.Blank.{none_written};
+ghost use Rattle.cas_port.specs.Calls.{IsLawful, Looked, Speaks, WantsMemory};
+ghost use Rattle.cas_port.specs.View.{tables};
 ghost use Rattle.graph_db.specs.Events.{IsBrought, SpeaksFor};
 ghost use Rattle.graph_db.specs.Parts.{HasRefs, FindsRefs, IsLawfulOrSame, IsRefusedFor, Brings, BringStops, IsOpenAlone, Writes, WriteStops, places_in};
 ghost use Rattle.graph_db.specs.Stores.{HasStored, IsRefused, object_with};
@@ -16,7 +16,7 @@ ghost use Rattle.graph_db.specs.Stores.{HasStored, IsRefused, object_with};
 use crate::StoreError;
 use crate::seeking::seek;
 use cas_model::{Digest, Note, Place, Space, Stage, Who, content_length, data_word, head_word};
-use cell_port::{Block, CellPort, PortError, Steps};
+use cas_port::{Block, CellPort, PortError, Steps};
 use std::alloc::AllocError;
 use std::marker::Brand;
 use std::sync::ledger::{Blank, Ledger};
@@ -26,7 +26,8 @@ use std::sync::ledger::{Blank, Ledger};
 ///
 /// Each reference is looked for before anything is claimed, and the first that the primary lacks is answered as
 /// `Dangling`. Then the record is bound, the content is claimed, written and filled in. `Full` comes exactly where a
-/// claim was refused, with its numbers, and `Memory` only from the port.
+/// claim was refused, with its numbers: one for a record or a subtrie before the digest was bound by this call, or that
+/// for the content after it. `Memory` comes only from the port.
 pub fn store<P: CellPort>(
     port: &mut P,
     who: Who,

@@ -8,7 +8,7 @@ use Rattle.sha2.specs.Sha256.{sha256}
 use Rattle.sha2.proofs.Facts256.{length-sha256}
 use Rattle.cas_model.specs.Content.{bytes_of, words_from}
 use Rattle.cas_model.specs.State.{State}
-use Rattle.cas_model.proofs.ContentLemmas.{recovered, AreBytes}
+use Rattle.cas_model.proofs.ContentLemmas.{recovered, EachIsByte}
 use Rattle.region_core.specs.Stands.{AreWords, Stands}
 use Rattle.region_check.specs.Flaws.{Refuses}
 use Rattle.region_check.specs.declared.flaw.CheckError.TheVariants as check
@@ -57,7 +57,7 @@ length-words_from zero bytes = refl
 length-words_from (suc n) bytes = ap suc (length-words_from n (drop 8 bytes))
 
 -- bytes in eights are those of their words
-pub bytes-back : (bytes : List ℕ) → length bytes % 8 ≡ 0 → AreBytes bytes → bytes_of (words_from (length bytes / 8) bytes) ≡ bytes
+pub bytes-back : (bytes : List ℕ) → length bytes % 8 ≡ 0 → EachIsByte bytes → bytes_of (words_from (length bytes / 8) bytes) ≡ bytes
 bytes-back bytes whole small =
     let n = length bytes / 8 in
     let fits : length bytes ≤ 8 * n = omega (arith, whole) in
@@ -80,15 +80,15 @@ word-more words after bytes i word so_far word_is is =
 pub body-length : (bytes : List ℕ) → HasLength bytes → length (body_of bytes) ≡ length bytes - 32
 body-length bytes fits = length-take-le (length bytes - 32) bytes (omega arith)
 
-taken-small : (n : ℕ) (bytes : List ℕ) → AreBytes bytes → AreBytes (take n bytes)
+taken-small : (n : ℕ) (bytes : List ℕ) → EachIsByte bytes → EachIsByte (take n bytes)
 taken-small zero bytes small i = omega arith
 taken-small (suc n) [] small i = small i
 taken-small (suc n) (b ∷ bytes) small zero = small 0
 taken-small (suc n) (b ∷ bytes) small (suc i) = taken-small n bytes (λ k. small (suc k)) i
 
-pub whole-image : (bytes body words : List ℕ) → IsWhole bytes body → AreBytes bytes → words ≡ words_from (length body / 8) body → bytes ≡ image_bytes words
+pub whole-image : (bytes body words : List ℕ) → IsWhole bytes body → EachIsByte bytes → words ≡ words_from (length body / 8) body → bytes ≡ image_bytes words
 whole-image bytes body words whole all is =
-    let small : AreBytes body = subst AreBytes (sym whole.is) (taken-small (length bytes - 32) bytes all) in
+    let small : EachIsByte body = subst EachIsByte (sym whole.is) (taken-small (length bytes - 32) bytes all) in
     let fits = whole.sum.fits in
     let long : length body ≡ length bytes - 32 = ap length whole.is ∙ body-length bytes fits in
     let eights : length body % 8 ≡ 0 = (let a = fits.whole in let b = fits.short in omega (arith, long, a, b)) in

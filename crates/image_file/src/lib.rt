@@ -4,8 +4,6 @@
 mod error;
 mod law;
 mod reading;
-#[cfg(test)]
-mod tests;
 mod writing;
 
 pub use error::ImageError;

@@ -4,6 +4,7 @@ ghost use Rattle.region_check.specs.declared.flaw.CheckError.TheVariants.{Memory
 
 use cas_model::Digest;
 use std::alloc::AllocError;
+use thiserror::Error;
 
 /// What is wrong. docs/REGION.md has the table of flaws, with the order in which they are looked for.
 #[derive(Clone, Copy, Debug, PartialEq, Eq)]
@@ -47,11 +48,13 @@ pub struct Flaw {
 }
 
 /// Why words are no closed region.
-#[derive(Clone, Copy, Debug, PartialEq, Eq)]
+#[derive(Clone, Copy, Debug, PartialEq, Eq, Drop, Error)]
 pub enum CheckError {
     /// They have a flaw. It is the first.
+    #[error("flaw at {}", .0.place)]
     Flaw(Flaw),
     /// There is no memory.
+    #[error("no memory")]
     Memory,
 }
 

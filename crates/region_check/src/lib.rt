@@ -14,8 +14,6 @@ mod roles;
 mod row;
 mod sum;
 mod sweep;
-#[cfg(test)]
-mod tests;
 
 pub use checking::check;
 pub use flaw::{CheckError, Flaw, FlawKind};

@@ -1,6 +1,7 @@
 -- An object or a pair more in words that are being built.
 use Rattle.std.proofs.Common.{◌≡◌, ◌≢◌, ℕ, ◌+◌, ◌*◌, ◌<◌, ◌≤◌, List, [], ◌∷◌, ◌++◌, length, get_or, set, length-set, ◌⊎◌, suc, inl, inr, refl, sym, ap, ◌∙◌, subst, arith, cond, true, Some}
 use Rattle.std.specs.FinMap as fin
+use Rattle.std.specs.List.{sum}
 use Rattle.std.proofs.lemmas.Bool.{cases_eq, cases_Bool}
 use Rattle.std.proofs.lemmas.List.{length-append}
 use Rattle.cas_model.specs.declared.contents.Pair.{Pair}
@@ -8,6 +9,7 @@ use Rattle.cas_model.specs.declared.digest.Digest.{Digest}
 use Rattle.cas_model.specs.declared.object.Object.{Object}
 use Rattle.cas_model.specs.declared.place.Space.{Space}
 use Rattle.cas_model.specs.declared.place.Space.TheVariants.{Objects, Actions}
+use Rattle.cas_model.specs.Claims.{record_claims}
 use Rattle.cas_model.specs.Content.{content_places, content_bytes, content_words, content_size}
 use Rattle.cas_model.specs.Contents.{object_digests, pair_keys, contents_state, AllMembers, objects_map, actions_map}
 use Rattle.cas_model.specs.Object.{object_digest}
@@ -19,18 +21,15 @@ use Rattle.cas_model.proofs.Maps.{get-put, same-is, same-self}
 use Rattle.region_core.specs.Heap.{Block, Free, Table, Record, Content, Claimed, extent, Cells, Laid, memory_of}
 use Rattle.region_core.specs.Certificate.{digest_in, digests_in, object_in, IsBelow, AllBelow, IsContentIn, AreContents, ObjectIn, ActionIn, Names}
 use Rattle.region_core.specs.Holds.{IsRecord}
-use Rattle.region_core.specs.Inserts.{IsData, HasJust, IsTight, Inserted}
-use Rattle.region_core.specs.Builds.{Building, IsNextObject, IsNextPair, ArePlaces}
+use Rattle.region_core.specs.Inserts.{IsData, HasJust, IsTight, Inserted, TablesStay}
+use Rattle.region_core.specs.Builds.{Building, IsNextObject, IsNextPair, ArePlaces, objects_end, pairs_end}
+use Rattle.region_core.proofs.Begins.{DataStays, objects_begin, pairs_begin, new_begins, content_behind, object_long, pair_long}
 use Rattle.region_core.proofs.Claim.{free_at_counter}
 use Rattle.region_core.proofs.Fill.{fill, fill_place}
 use Rattle.region_core.proofs.Finding.{record_below}
 use Rattle.region_core.proofs.Inserting.{put, placed_put, wrote_set, claimed_end}
 use Rattle.region_core.proofs.Labels.{length-content_words}
 use Rattle.region_core.proofs.Tightness.{tight_on}
-
--- records and contents stay as they are
-abbrev pub DataStays : (ℕ → Block) → (ℕ → Block) → Type 0
-DataStays heap heap' = (p : ℕ) (b : Block) → IsData b → heap p ≡ b → heap' p ≡ b
 
 below_stays : (heap heap' : ℕ → Block) (v : ℕ) (ns : List ℕ) → DataStays heap heap' → AllBelow heap v ns → AllBelow heap' v ns
 below_stays heap heap' v [] on all = tt
@@ -97,8 +96,8 @@ grown_sum total all mid own first owner n size a b c d e = omega arith
 
 -- ---- an object more
 
-module _ (heap : ℕ → Block) (objects : List Object) (pairs : List Pair) (first mid : List ℕ) (o : Object) (owner : ℕ) (places : List ℕ)
-    (b : Building heap first objects pairs) (next : IsNextObject objects o)
+module _ (heap : ℕ → Block) (objects : List Object) (first mid : List ℕ) (o : Object) (owner : ℕ) (places : List ℕ)
+    (b : Building heap first objects []) (next : IsNextObject objects o)
     (x : Inserted heap (object_digests objects) mid Objects (object_digest o) owner)
     (start : owner ≡ length first)
     (are : ArePlaces x.after places o.refs)
@@ -294,7 +293,7 @@ module _ (heap : ℕ → Block) (objects : List Object) (pairs : List Pair) (fir
     distinct = (next.fresh, b.objects_are.distinct);
   }
 
-  keys4 : HasJust h4 Actions (pair_keys pairs)
+  keys4 : HasJust h4 Actions (pair_keys [])
   keys4 = record {
     on = λ e m. let z = b.keys_are.on e m in (z.0, (z.1.0, kept z.0 (Record Actions e.bytes z.1.0) tt z.1.1));
     back = λ e p c h. b.keys_are.back e p c (back p (Record Actions e c) tt h
@@ -350,7 +349,7 @@ module _ (heap : ℕ → Block) (objects : List Object) (pairs : List Pair) (fir
   absent : (q : Digest) (y : Object) → ObjectIn heap q y → q ≢ d
   absent q y z e = next.fresh (subst (λ u. Member u (object_digests objects)) e (b.objects_are.back q.bytes z.owner z.place z.record_))
 
-  names4 : Names h4 (contents_state (o ∷ objects) pairs)
+  names4 : Names h4 (contents_state (o ∷ objects) [])
   names4 = record {
     objects = λ q y. (
       λ h. elim (cases_Bool (same_digest q d)) [
@@ -376,12 +375,32 @@ module _ (heap : ℕ → Block) (objects : List Object) (pairs : List Pair) (fir
     cache = λ k w. (λ h. action_on heap h4 k w kept b.laid.cells ((b.names.cache k w).0 h), λ z. (b.names.cache k w).1 (action_back k w z));
   }
 
-  pub object_building : Building h4 (set (mid ++ xs) (owner + 4) v) (o ∷ objects) pairs
-  object_building = record { laid = laid4; contents = contents4; filled = filled4; tight = tight4; objects_are = objects4; keys_are = keys4; names = names4 }
+  tables_on : TablesStay x.after h4
+  tables_on p s π h =
+      other p (λ e0. let clash : Table s π ≡ Record Objects d.bytes 0 = sym h ∙ ap x.after e0 ∙ x.here in cc)
+      (λ e0. let clash : Table s π ≡ Free = sym h ∙ ap x.after e0 ∙ free in cc) ∙ h
 
   pub object_grown : length (set (mid ++ xs) (owner + 4) v) ≡ length first + 5 + 16 * new_subtries (object_digests objects) d 62 + content_size (length o.refs) (length o.data)
   object_grown = grown_sum (length (set (mid ++ xs) (owner + 4) v)) (length (mid ++ xs)) (length mid) (length xs) (length first) owner (new_subtries (object_digests objects) d 62) (content_size (length o.refs) (length o.data))
       (length-set (mid ++ xs) (owner + 4) v) (length-append mid xs) (length-content_words places o.data ∙ ap (λ n. content_size n (length o.data)) (same_length x.after places o.refs are)) x.grown start
+
+  pub object_building : Building h4 (set (mid ++ xs) (owner + 4) v) (o ∷ objects) []
+  object_building = record {
+    laid = laid4;
+    contents = contents4;
+    filled = filled4;
+    tight = tight4;
+    objects_are = objects4;
+    keys_are = keys4;
+    names = names4;
+    long = object_long (object_digests objects) o (length (set (mid ++ xs) (owner + 4) v)) (length first) (objects_end objects) b.long object_grown;
+    objects_begin = (
+      new_begins h4 x.after Objects (object_digests objects) d owner (objects_end objects) (objects_end objects + sum (record_claims (object_digests objects) (object_digest o))) v (start ∙ b.long)
+          (content_behind (object_digests objects) d owner (objects_end objects) v (start ∙ b.long) x.grown) at_owner tables_on x.subtries,
+      objects_begin heap h4 kept (λ p s π h. tables_on p s π (x.tables p s π h)) objects b.objects_begin,
+    );
+    pairs_begin = tt;
+  }
 
 -- ---- a pair more
 
@@ -554,8 +573,25 @@ module _ (heap : ℕ → Block) (objects : List Object) (pairs : List Pair) (fir
     );
   }
 
-  pub pair_building : Building g2 (set mid (owner + 4) value) objects (p0 ∷ pairs)
-  pair_building = record { laid = pair-laid; contents = pair-contents; filled = pair-filled; tight = pair-tight; objects_are = pair-objects; keys_are = pair-keys; names = pair-names }
+  pair-tables_on : TablesStay x.after g2
+  pair-tables_on p s π h = pair-other p (λ e0. let clash : Table s π ≡ Record Actions p0.key.bytes 0 = sym h ∙ ap x.after e0 ∙ x.here in cc) ∙ h
 
   pub pair_grown : length (set mid (owner + 4) value) ≡ length first + 5 + 16 * new_subtries (pair_keys pairs) p0.key 62
   pair_grown = length-set mid (owner + 4) value ∙ x.grown ∙ ap (λ n. n + 5 + 16 * new_subtries (pair_keys pairs) p0.key 62) start
+
+  pub pair_building : Building g2 (set mid (owner + 4) value) objects (p0 ∷ pairs)
+  pair_building = record {
+    laid = pair-laid;
+    contents = pair-contents;
+    filled = pair-filled;
+    tight = pair-tight;
+    objects_are = pair-objects;
+    keys_are = pair-keys;
+    names = pair-names;
+    long = pair_long (pair_keys pairs) p0.key (length (set mid (owner + 4) value)) (length first) (pairs_end objects pairs) b.long pair_grown;
+    objects_begin = objects_begin heap g2 pair-kept (λ p s π h. pair-tables_on p s π (x.tables p s π h)) objects b.objects_begin;
+    pairs_begin = (
+      (value, new_begins g2 x.after Actions (pair_keys pairs) p0.key owner (pairs_end objects pairs) value value (start ∙ b.long) refl pair-at_owner pair-tables_on x.subtries),
+      pairs_begin heap g2 pair-kept (λ p s π h. pair-tables_on p s π (x.tables p s π h)) objects pairs b.pairs_begin,
+    );
+  }

@@ -17,19 +17,21 @@ use Rattle.cas_model.specs.State.{State, Member, digest_cmp}
 use Rattle.cas_model.specs.Tables.{same_digest}
 use Rattle.cas_model.proofs.Maps.{get-put, same-is, same-maps}
 use Rattle.region_core.specs.declared.insertion.BuildError.{BuildError}
-use Rattle.region_core.specs.Builds.{Building, IsBuilt, CanAddObject, CanAddPair, AddsObject, AddsPair, RefusesObject, RefusesPair, ObjectsAdded, PairsAdded, HasCertificate, empty_region, one_object_claims, turned}
+use Rattle.region_core.specs.Builds.{Building, IsBuilt, CanAddObject, CanAddPair, AddsObject, AddsPair, RefusesObject, RefusesPair, ObjectsAdded, PairsAdded, HasCertificate, PairsBegin, empty_region, one_object_claims, turned}
 use Rattle.region_core.specs.Certificate.{Names, ObjectIn, ActionIn}
 use Rattle.region_core.specs.Change.{Wrote}
 use Rattle.cas_model.specs.Claims.{record_claims, object_claims, action_claims, contents_claims}
 use Rattle.region_core.specs.Claims.{Refuses}
 use Rattle.region_core.specs.Heap.{Block, Laid, memory_of}
 use Rattle.region_core.specs.Inserts.{SameHead}
+use Rattle.region_core.specs.Places.{LieInOrder}
 use Rattle.region_core.specs.Stands.{Stands}
 use Rattle.region_core.proofs.Empty.{empty, empty_heap, no_record, no_content, root_only}
 use Rattle.region_core.proofs.Gathering.{refuses_more, refuses_after}
 use Rattle.region_core.proofs.Heap.{fixed_within, same_tries, wide}
 use Rattle.region_core.proofs.Inserting.{wrote_set, laid_long}
 use Rattle.region_core.proofs.Labels.{certified_stands}
+use Rattle.region_core.proofs.Places.{lie_in_order}
 
 -- ---- words in which nothing is stored
 
@@ -77,6 +79,9 @@ empty_building size = record {
     objects = λ d o. (λ h. absurd (none_some o (sym (fin.get-empty digest_cmp d) ∙ h)), λ (x : ObjectIn empty_heap d o). absurd (no_record x.owner Objects d.bytes x.place x.record_));
     cache = λ k v. (λ h. absurd (none_some v (sym (fin.get-empty digest_cmp k) ∙ h)), λ (x : ActionIn empty_heap k v). absurd (no_record x.owner Actions k.bytes x.cell x.record_));
   };
+  long = empty_long size;
+  objects_begin = tt;
+  pairs_begin = tt;
 }
 
 -- ---- the objects
@@ -318,6 +323,13 @@ header_laid heap memory memory' counter at w low long wrote laid = record {
   cells = laid.cells;
 }
 
+-- the labelling stays where the counter is written
+closed_laid : (words : List ℕ) (objects : List Object) (pairs : List Pair) → (x : IsBuilt words objects pairs) → Laid x.heap (memory_of (set words 3 (length words))) (length (set words 3 (length words)))
+closed_laid words objects pairs x =
+    let long : 520 ≤ length words = laid_long x.heap words x.building.laid in
+    subst (Laid x.heap (memory_of (set words 3 (length words)))) (sym (length-set words 3 (length words)))
+    (header_laid x.heap (memory_of words) (memory_of (set words 3 (length words))) (length words) 3 (length words) (omega arith) long (wrote_set words 3 (length words) (omega arith)) x.building.laid)
+
 pub finished : (words : List ℕ) (objects : List Object) (pairs : List Pair) (n size : ℕ) → AreLawfulContents objects pairs → 4096 ≤ size → size ≤ 67108864 → length words ≤ size → SameHead (empty_region size) words → PairsAdded words objects pairs n → length pairs ≤ n
     → HasCertificate (set words 3 (length words)) size (contents_state objects pairs)
 finished words objects pairs n size lawful least most within head x h =
@@ -343,8 +355,7 @@ finished words objects pairs n size lawful least most within head x h =
           long = subst (λ k. 520 ≤ k) (sym all_long) long;
           within = subst (λ k. k ≤ size) (sym all_long) within;
         };
-        laid = subst (Laid x.built.heap (memory_of (set words 3 (length words)))) (sym all_long)
-            (header_laid x.built.heap (memory_of words) (memory_of (set words 3 (length words))) (length words) 3 (length words) (omega arith) long (wrote_set words 3 (length words) (omega arith)) x.built.building.laid);
+        laid = closed_laid words (turned [] objects) x.done x.built;
         contents = x.built.building.contents;
         names = subst (Names x.built.heap) state_is x.built.building.names;
       };
@@ -352,6 +363,13 @@ finished words objects pairs n size lawful least most within head x h =
 
 pub certificate_stands : (words : List ℕ) (size : ℕ) (state : State) → HasCertificate words size state → Stands words size state
 certificate_stands words size state x = certified_stands x.heap words size state x.certified
+
+-- each block lies behind the claims before it
+pub finished_places : (words : List ℕ) (objects : List Object) (pairs : List Pair) (n : ℕ) → PairsAdded words objects pairs n → length pairs ≤ n → LieInOrder (set words 3 (length words)) objects pairs
+finished_places words objects pairs n x h =
+    let done_is : x.done ≡ turned [] pairs = sym (ap (turned x.done) (drop_all pairs n h)) ∙ x.order in
+    let b = x.built.building in
+    lie_in_order x.built.heap (set words 3 (length words)) objects pairs (closed_laid words (turned [] objects) x.done x.built) b.filled b.objects_begin (subst (PairsBegin x.built.heap (turned [] objects)) done_is b.pairs_begin)
 
 pub finished_long : (words : List ℕ) (objects : List Object) (pairs : List Pair) (n : ℕ) → PairsAdded words objects pairs n → length pairs ≤ n → length (set words 3 (length words)) ≡ 520 + sum (contents_claims objects pairs)
 finished_long words objects pairs n x h =

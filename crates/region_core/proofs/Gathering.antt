@@ -1,9 +1,8 @@
 -- The steps of building, over what its parts say.
-use Rattle.std.proofs.Common.{◌≡◌, ℕ, ◌+◌, ◌*◌, ◌<◌, ◌≤◌, List, [], ◌∷◌, ◌++◌, length, get_or, set, take, replicate, suc, refl, sym, ap, ◌∙◌, subst, arith, append_assoc, None}
+use Rattle.std.proofs.Common.{◌≡◌, ℕ, ◌+◌, ◌*◌, ◌<◌, ◌≤◌, List, [], ◌∷◌, ◌++◌, length, get_or, set, take, suc, refl, sym, ap, ◌∙◌, subst, arith, append_assoc, None}
 use Rattle.std.specs.List.{sum}
 use Rattle.std.proofs.lemmas.List.{length-append}
-use Rattle.std.proofs.lemmas.List.Sums.{sum_by-append, sum_by-cons}
-use Rattle.std.proofs.lemmas.List.Folds.{sum_by-replicate}
+use Rattle.std.proofs.lemmas.List.Sums.{sum_by-append}
 use Rattle.std.proofs.Math.Seq.{take-append_seam}
 use Rattle.cas_model.specs.declared.contents.Pair.{Pair}
 use Rattle.cas_model.specs.declared.digest.Digest.{Digest}
@@ -25,6 +24,7 @@ use Rattle.region_core.specs.Holds.{IsRecord, Looked}
 use Rattle.region_core.specs.Inserts.{IsReady, Inserted, SameHead, HasJust, SameDataBut, RefusesClaim}
 use Rattle.region_core.proofs.Labels.{length-content_words}
 use Rattle.region_core.proofs.Inserting.{head_append, head_set, head_then, laid_long}
+use Rattle.region_core.proofs.Begins.{sum_record, sum_object}
 use Rattle.region_core.proofs.Adding.{object_building, object_grown, pair_building, pair_grown}
 
 -- ---- claims
@@ -65,18 +65,6 @@ refuses_one size at asked (errors.Full full) fits x = record {
   past = omega (arith, ap (λ (f : Full). f.at) x.0, ap (λ (f : Full). f.asked) x.0, x.1);
   size_is = ap (λ (f : Full). f.size) x.0;
 }
-
-pub sum_record : (known : List Digest) (d : Digest) → sum (record_claims known d) ≡ 5 + 16 * new_subtries known d 62
-sum_record known d = sum_by-cons (λ m. m) 5 (replicate (new_subtries known d 62) 16) ∙ ap (λ m. 5 + m) (sum_by-replicate (λ m. m) (new_subtries known d 62) 16) ∙ omega arith
-
-sum_one : (n : ℕ) → sum (n ∷ []) ≡ n
-sum_one n = sum_by-cons (λ m. m) n [] ∙ omega arith
-
-pub sum_object : (known : List Digest) (o : Object) → sum (one_object_claims known o) ≡ 5 + 16 * new_subtries known (object_digest o) 62 + content_size (length o.refs) (length o.data)
-sum_object known o =
-    let n : ℕ = content_size (length o.refs) (length o.data) in
-    sum_by-append (λ m. m) (record_claims known (object_digest o)) (content_size (length o.refs) (length o.data) ∷ [])
-    ∙ (λ i. sum_record known (object_digest o) i + sum_one (content_size (length o.refs) (length o.data)) i)
 
 -- ---- an object
 
@@ -143,16 +131,16 @@ pub content_long : (old three : List ℕ) (o : Object) → HasReferences old o.r
 content_long old three o refs x =
     ap length x.is ∙ length-append old (content_words x.places o.data) ∙ ap (λ n. length old + n) (length-content_words x.places o.data ∙ ap (λ n. content_size n (length o.data)) (same_length refs.heap x.places o.refs (x.are refs.heap refs.laid)))
 
-pub object_done : (heap : ℕ → Block) (objects : List Object) (pairs : List Pair) (first mid after : List ℕ) (o : Object) (d : Digest) (owner content : ℕ) → Building heap first objects pairs → IsNextObject objects o → d ≡ object_digest o
+pub object_done : (heap : ℕ → Block) (objects : List Object) (first mid after : List ℕ) (o : Object) (d : Digest) (owner content : ℕ) → Building heap first objects [] → IsNextObject objects o → d ≡ object_digest o
     → Inserted heap (object_digests objects) mid Objects d owner → owner ≡ length first → HasContent mid after o → content ≡ length mid → ((i : ℕ) → get_or o.data i 0 < 256)
-    → IsBuilt (set after (owner + 4) content) (o ∷ objects) pairs × (length (set after (owner + 4) content) ≡ length first + sum (one_object_claims (object_digests objects) o))
-object_done heap objects pairs first mid after o d owner content b next d_is x start c content_is bytes =
+    → IsBuilt (set after (owner + 4) content) (o ∷ objects) [] × (length (set after (owner + 4) content) ≡ length first + sum (one_object_claims (object_digests objects) o))
+object_done heap objects first mid after o d owner content b next d_is x start c content_is bytes =
     let y : Inserted heap (object_digests objects) mid Objects (object_digest o) owner = subst (λ z. Inserted heap (object_digests objects) mid Objects z owner) d_is x in
     let words : set after (owner + 4) content ≡ set (mid ++ content_words c.places o.data) (owner + 4) (length mid) = λ i. set (c.is i) (owner + 4) (content_is i) in
     let are = c.are y.after y.laid in
-    subst (λ ws. IsBuilt ws (o ∷ objects) pairs × (length ws ≡ length first + sum (one_object_claims (object_digests objects) o))) (sym words) (
-      record { heap = _; building = object_building heap objects pairs first mid o owner c.places b next y start are bytes },
-      object_grown heap objects pairs first mid o owner c.places b next y start are bytes ∙ regroup (length first) (new_subtries (object_digests objects) (object_digest o) 62) (content_size (length o.refs) (length o.data)) ∙ ap (λ n. length first + n) (sym (sum_object (object_digests objects) o)),
+    subst (λ ws. IsBuilt ws (o ∷ objects) [] × (length ws ≡ length first + sum (one_object_claims (object_digests objects) o))) (sym words) (
+      record { heap = _; building = object_building heap objects first mid o owner c.places b next y start are bytes },
+      object_grown heap objects first mid o owner c.places b next y start are bytes ∙ regroup (length first) (new_subtries (object_digests objects) (object_digest o) 62) (content_size (length o.refs) (length o.data)) ∙ ap (λ n. length first + n) (sym (sum_object (object_digests objects) o)),
     )
 
 pub pair_done : (heap : ℕ → Block) (objects : List Object) (pairs : List Pair) (first mid : List ℕ) (p0 : Pair) (owner value : ℕ) → Building heap first objects pairs → IsNextPair objects pairs p0

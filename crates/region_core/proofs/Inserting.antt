@@ -17,7 +17,7 @@ use Rattle.region_core.specs.Heap.{Block, Free, Table, Record, Claimed, extent, 
 use Rattle.region_core.specs.Change.{Wrote, Placed}
 use Rattle.cas_model.specs.Claims.{record_claims}
 use Rattle.region_core.specs.Claims.{Refuses}
-use Rattle.region_core.specs.Inserts.{IsData, SameData, IsReady, Inserted, Descent, IsUnder, IsTightFor, RefusesClaim, RefusesStep, SameHead}
+use Rattle.region_core.specs.Inserts.{IsData, SameData, TablesStay, IsReady, Inserted, Descent, IsUnder, IsTightFor, RefusesClaim, RefusesStep, SameHead}
 use Rattle.region_core.proofs.Heap.{wide, stay, came}
 use Rattle.region_core.proofs.Claim.{append, free_at_counter}
 use Rattle.region_core.proofs.Sink.{sink}
@@ -69,6 +69,8 @@ descent_start heap known ws d s ready =
       here = stay heap (put heap (length ws) (Claimed xs)) (length ws) (root s) Free (Claimed xs) (Table s []) placed was (ready.laid.tries.roots s) (λ e. cc);
       mine = placed.now;
       same = same;
+      tables = λ p r π h. stay heap (put heap (length ws) (Claimed xs)) (length ws) p Free (Claimed xs) (Table r π) placed was h (λ e. cc);
+      subtries = λ l h shared. absurd (omega arith);
       tight = tight_first heap (put heap (length ws) (Claimed xs)) s d.bytes (records_stay heap (put heap (length ws) (Claimed xs)) same)
           (λ p r π h. came heap (put heap (length ws) (Claimed xs)) (length ws) p (Claimed xs) (Table r π) placed h (λ e. cc)) ready.tight;
       grown = omega (arith, length-append ws xs);
@@ -85,6 +87,11 @@ descent_down heap known first ws d s level table own j t ready x j_is hj word =
       here = here;
       mine = x.mine;
       same = x.same;
+      tables = x.tables;
+      subtries = λ l h shared. elim (cases_eq l level) [
+        | inl is ↦ absurd (shares (ap (λ n. sharing known d (suc n)) (sym is) ∙ shared))
+        | inr ne ↦ x.subtries l (omega arith) shared
+      ];
       tight = tight_down x.after s d.bytes level x.tight;
       grown = omega (arith, x.grown, subtries_same known d level shares);
     }
@@ -98,6 +105,7 @@ descent_end heap known first ws d s level table own j ready x digest j_is hj wor
     let none = empty_shares heap x.after (memory_of ws) known s d level table ready.known_are x.same x.laid.tries x.here empty in
     let rest : ℕ = 62 - level in
     let all : level + rest ≡ 62 = omega arith in
+    let bound : TablesStay x.after (put x.after own (Record s d.bytes 0)) = λ p r π h. stay x.after (put x.after own (Record s d.bytes 0)) own p (Claimed (words_of d.bytes ++ 0 ∷ [])) (Record s d.bytes 0) (Table r π) placed x.mine h (λ e. cc) in
     record {
       after = put x.after own (Record s d.bytes 0);
       laid = rw length-set (bind x.after (put x.after own (Record s d.bytes 0)) (memory_of ws) (memory_of (set ws (table + j) (4 * own + 1))) (length ws) s (path d.bytes level) table j own d.bytes x.laid x.here hj leads (sym word) x.mine digest (wrote_set ws (table + j) (4 * own + 1) inside) placed);
@@ -106,6 +114,11 @@ descent_end heap known first ws d s level table own j ready x digest j_is hj wor
         λ h. stay x.after (put x.after own (Record s d.bytes 0)) own p (Claimed (words_of d.bytes ++ 0 ∷ [])) (Record s d.bytes 0) b placed x.mine ((x.same p b data_).0 h) (λ e. subst IsData e data_),
         λ h ne. (x.same p b data_).1 (sym (placed.same p ne) ∙ h),
       );
+      tables = λ p r π h. bound p r π (x.tables p r π h);
+      subtries = λ l h shared. elim (cases_lt l level) [
+        | inl low ↦ bound (own + 5 + 16 * new_subtries known d l) s (path d.bytes (suc l)) (x.subtries l low shared)
+        | inr high ↦ absurd (omega (arith, none (suc l) (omega arith)))
+      ];
       tight = tight_bind x.after (put x.after own (Record s d.bytes 0)) s d.bytes (words_of d.bytes ++ 0 ∷ []) own level x.tight x.mine placed;
       grown = omega (arith, x.grown, length-set ws (table + j) (4 * own + 1), ap (new_subtries known d) all, subtries_end known d level rest none);
     }
@@ -158,6 +171,8 @@ descent_sink heap known first ws d e s level table own j r k c ready x hj word s
       here = mid_record;
       begins = ap (λ l. path e (suc l)) (length-path d.bytes level) ∙ shared ∙ ap (λ i. i ∷ path d.bytes level) (sym j_is);
     } in
+    let kept : TablesStay x.after last = λ p y π h.
+    stay mid last q p (Claimed block) (Table s (j ∷ path d.bytes level)) (Table y π) second first.now (stay x.after mid q p Free (Claimed block) (Table y π) first was h (λ z. cc)) (λ z. cc) in
     record {
       after = last;
       laid = rw length-set (sink mid last (memory_of (ws ++ block)) (memory_of (set (ws ++ block) (table + j) (4 * q + 2))) (length (ws ++ block)) s (path d.bytes level) table j r q k e c block mid_laid mid_here hj mid_word mid_record first.now size (k_is ∙ ap (λ l. index_of e (suc l)) (sym (length-path d.bytes level))) (get_or-set_same no_slots k (4 * r + 1) 0 hk) (λ i hi ne. get_or-set_other no_slots k i (4 * r + 1) 0 ne ∙ empty_slots i hi) hk (omega (arith, length-path d.bytes level)) (wrote_set (ws ++ block) (table + j) (4 * q + 2) inside_mid) second);
@@ -166,6 +181,12 @@ descent_sink heap known first ws d e s level table own j r k c ready x hj word s
       same = chained heap mid last
           (chained heap x.after mid x.same first_same)
           (plain_data mid last q (Claimed block) (Table s (j ∷ path d.bytes level)) second first.now (λ h. h) (λ h. h));
+      tables = λ p y π h. kept p y π (x.tables p y π h);
+      subtries = λ l h shared. elim (cases_eq l level) [
+        | inl is ↦
+            ap (λ n. last (own + 5 + 16 * new_subtries known d n)) is ∙ ap last (sym x.grown) ∙ second.now ∙ ap (λ i. Table s (i ∷ path d.bytes level)) j_is ∙ ap (λ n. Table s (path d.bytes (suc n))) (sym is)
+        | inr ne ↦ kept (own + 5 + 16 * new_subtries known d l) s (path d.bytes (suc l)) (x.subtries l (omega arith) shared)
+      ];
       tight = tight_sink mid last s d.bytes block j r q level (path d.bytes level) mid_tight first.now second under leads (length-path d.bytes level);
       grown = omega (arith, x.grown, length-set (ws ++ block) (table + j) (4 * q + 2), length-append ws block, subtries_more known d level one);
     }

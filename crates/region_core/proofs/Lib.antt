@@ -10,9 +10,11 @@ pub mod Reading
 pub mod Labels
 pub mod Tightness
 pub mod Inserting
+pub mod Begins
 pub mod Adding
 pub mod Pushing
 pub mod Gathering
+pub mod Places
 pub mod Finishing
 pub mod Tables
 pub mod Going

@@ -15,11 +15,47 @@ use Rattle.region_core.specs.Claims.{Refuses}
 use Rattle.region_core.specs.declared.insertion.BuildError.{BuildError}
 use Rattle.region_core.specs.Heap.{Block, Record, Laid, memory_of}
 use Rattle.region_core.specs.Holds.{IsRecord}
-use Rattle.region_core.specs.Inserts.{HasJust, IsTight}
+use Rattle.region_core.specs.Inserts.{HasJust, IsTight, SubtriesBehind}
 
 -- the words of a region in which nothing is stored: the magic, the version, the size, the counter, and zeros
 unfoldable pub empty_region : ℕ → List ℕ
 empty_region size = (6000011104285311299 ∷ 1 ∷ size ∷ 520 ∷ []) ++ replicate 516 0
+
+-- the claims of one object
+abbrev pub one_object_claims : List Digest → Object → List ℕ
+one_object_claims known o = record_claims known (object_digest o) ++ content_size (length o.refs) (length o.data) ∷ []
+
+-- the place behind objects, the newest first
+abbrev pub objects_end : List Object → ℕ
+objects_end [] = 520
+objects_end (o ∷ os) = objects_end os + sum (one_object_claims (object_digests os) o)
+
+-- the place behind objects and pairs, the newest first
+abbrev pub pairs_end : List Object → List Pair → ℕ
+pairs_end objects [] = objects_end objects
+pairs_end objects (p ∷ ps) = pairs_end objects ps + sum (record_claims (pair_keys ps) p.key)
+
+-- the record of a digest begins at the place, with this cell, and the subtries behind it that it needed where the known digests had
+-- records before it
+pub record RecordBegins (heap : ℕ → Block) (space : Space) (known : List Digest) (digest : Digest) (place cell : ℕ) : Type 0 where
+  pub here : heap place ≡ Record space digest.bytes cell
+  pub subtries : SubtriesBehind heap space known digest place 62
+
+-- an object begins at the place behind the older ones, and its content behind its record and subtries
+abbrev pub ObjectBegins : (ℕ → Block) → List Object → Object → Type 0
+ObjectBegins heap os o = RecordBegins heap Objects (object_digests os) (object_digest o) (objects_end os) (objects_end os + sum (record_claims (object_digests os) (object_digest o)))
+
+abbrev pub ObjectsBegin : (ℕ → Block) → List Object → Type 0
+ObjectsBegin heap [] = Unit {0}
+ObjectsBegin heap (o ∷ os) = ObjectBegins heap os o × ObjectsBegin heap os
+
+-- a pair begins at the place behind the objects and the older pairs
+abbrev pub PairBegins : (ℕ → Block) → List Object → List Pair → Pair → Type 0
+PairBegins heap objects ps p = (cell : ℕ) × RecordBegins heap Actions (pair_keys ps) p.key (pairs_end objects ps) cell
+
+abbrev pub PairsBegin : (ℕ → Block) → List Object → List Pair → Type 0
+PairsBegin heap objects [] = Unit {0}
+PairsBegin heap objects (p ∷ ps) = PairBegins heap objects ps p × PairsBegin heap objects ps
 
 -- a labelling of words that hold these objects and pairs, the newest first, each with its cell filled
 pub record Building (heap : ℕ → Block) (words : List ℕ) (objects : List Object) (pairs : List Pair) : Type 0 where
@@ -30,6 +66,9 @@ pub record Building (heap : ℕ → Block) (words : List ℕ) (objects : List Ob
   pub objects_are : HasJust heap Objects (object_digests objects)
   pub keys_are : HasJust heap Actions (pair_keys pairs)
   pub names : Names heap (contents_state objects pairs)
+  pub long : length words ≡ pairs_end objects pairs
+  pub objects_begin : ObjectsBegin heap objects
+  pub pairs_begin : PairsBegin heap objects pairs
 
 pub record IsBuilt (words : List ℕ) (objects : List Object) (pairs : List Pair) : Type 0 where
   pub heap : ℕ → Block
@@ -84,10 +123,6 @@ pub record CanAddObject (words : List ℕ) (o : Object) : Type 0 where
   pub objects : List Object
   pub building : Building heap words objects []
   pub next : IsNextObject objects o
-
--- the claims of one object
-abbrev pub one_object_claims : List Digest → Object → List ℕ
-one_object_claims known o = record_claims known (object_digest o) ++ content_size (length o.refs) (length o.data) ∷ []
 
 pub record ObjectAdded (before after : List ℕ) (objects : List Object) (o : Object) : Type 0 where
   pub built : IsBuilt after (o ∷ objects) []

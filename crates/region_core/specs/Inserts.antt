@@ -1,10 +1,10 @@
 -- How a record is put into a trie, level by level.
-use Rattle.std.specs.Prelude.{◌≡◌, ◌≢◌, ℕ, ◌+◌, ◌*◌, ◌<◌, ◌≤◌, List, [], ◌∷◌, ◌++◌, length, slice_index, ◌⊎◌, Some, None}
+use Rattle.std.specs.Prelude.{◌≡◌, ◌≢◌, ℕ, suc, ◌+◌, ◌*◌, ◌<◌, ◌≤◌, List, [], ◌∷◌, ◌++◌, length, slice_index, ◌⊎◌, Some, None}
 use Rattle.std.specs.declared.option.Option.{Option}
 use Rattle.cas_model.specs.declared.digest.Digest.{Digest}
 use Rattle.cas_model.specs.declared.place.Space.{Space}
 use Rattle.cas_model.specs.State.{Member}
-use Rattle.cas_model.specs.Trie.{path, index_of, new_subtries}
+use Rattle.cas_model.specs.Trie.{path, index_of, sharing, new_subtries}
 use Rattle.region_core.specs.declared.insertion.BuildError.{BuildError}
 use Rattle.region_core.specs.declared.insertion.BuildError.TheVariants as errors
 use Rattle.cas_model.specs.Claims.{record_claims}
@@ -37,6 +37,15 @@ SameData before after = (p : ℕ) (b : Block) → IsData b → (before p ≡ b �
 -- the same but for one place
 abbrev pub SameDataBut : (ℕ → Block) → (ℕ → Block) → ℕ → Type 0
 SameDataBut before after at = (p : ℕ) (b : Block) → IsData b → (before p ≡ b → after p ≡ b) × (after p ≡ b → p ≢ at → before p ≡ b)
+
+-- no table moves
+abbrev pub TablesStay : (ℕ → Block) → (ℕ → Block) → Type 0
+TablesStay before after = (p : ℕ) (s : Space) (above : List ℕ) → before p ≡ Table s above → after p ≡ Table s above
+
+-- the subtries that a digest needs at the levels from 1 to n begin behind its record, the lowest level first
+abbrev pub SubtriesBehind : (ℕ → Block) → Space → List Digest → Digest → ℕ → ℕ → Type 0
+SubtriesBehind heap space known digest place n =
+    (level : ℕ) → level < n → sharing known digest (suc level) ≡ 1 → heap (place + 5 + 16 * new_subtries known digest level) ≡ Table space (path digest.bytes (suc level))
 
 -- no digest twice
 abbrev pub AreDistinct : List Digest → Type 0
@@ -93,6 +102,8 @@ pub record Descent (heap : ℕ → Block) (known : List Digest) (words : List �
   pub here : after table ≡ Table space (path digest.bytes level)
   pub mine : after own ≡ Claimed (words_of digest.bytes ++ 0 ∷ [])
   pub same : SameData heap after
+  pub tables : TablesStay heap after
+  pub subtries : SubtriesBehind after space known digest own level
   pub tight : IsTightFor after space digest.bytes level
   pub grown : length words ≡ own + 5 + 16 * new_subtries known digest level
 
@@ -102,6 +113,8 @@ pub record Inserted (heap : ℕ → Block) (known : List Digest) (words : List �
   pub laid : Laid after (memory_of words) (length words)
   pub here : after place ≡ Record space digest.bytes 0
   pub same : SameDataBut heap after place
+  pub tables : TablesStay heap after
+  pub subtries : SubtriesBehind after space known digest place 62
   pub tight : IsTight after
   pub grown : length words ≡ place + 5 + 16 * new_subtries known digest 62
 

@@ -9,4 +9,5 @@ pub mod Certificate
 pub mod Claims
 pub mod Inserts
 pub mod Builds
+pub mod Places
 pub mod Found

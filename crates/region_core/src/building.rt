@@ -7,6 +7,7 @@ ghost use Rattle.cas_model.specs.Claims.{contents_claims};
 ghost use Rattle.region_core.specs.Claims.{Refuses};
 ghost use Rattle.region_core.specs.declared.insertion.BuildError.TheVariants.{Memory};
 ghost use Rattle.region_core.specs.Inserts.{RefusesClaim, SameHead};
+ghost use Rattle.region_core.specs.Places.{LieInOrder};
 ghost use Rattle.region_core.specs.Stands.{Stands};
 
 use crate::insertion::{BuildError, claim, insert_record};
@@ -116,7 +117,8 @@ fn add_pair(words: &mut Vec<u64>, size: u64, pair: &Pair) -> Result<(), BuildErr
 
 /// The words below the counter of a region of this size that holds just these contents: the objects in their
 /// order, each with its record, its subtries and its content, and then the actions, each with its record and its
-/// subtries. The order is this project's own.
+/// subtries. The order is this project's own. The first block lies at 520, and each further one at the place behind
+/// the claims before it.
 ///
 /// It fails with `Full` at the first claim that passes the end of the region, and with `Memory` where there is none.
 pub fn build(alloc: Global, contents: &Contents, size: u64) -> Result<Vec<u64>, BuildError>
@@ -125,6 +127,7 @@ pub fn build(alloc: Global, contents: &Contents, size: u64) -> Result<Vec<u64>, 
     requires lawful { AreLawfulContents contents.now.objects.items contents.now.actions.items }
     ensures stands { IfOk result (λ words. Stands words.items size (contents_state contents.now.objects.items contents.now.actions.items)) }
     ensures certified { IfOk result (λ words. HasCertificate words.items size (contents_state contents.now.objects.items contents.now.actions.items)) }
+    ensures places { IfOk result (λ words. LieInOrder words.items contents.now.objects.items contents.now.actions.items) }
     ensures long { IfOk result (λ words. length words.items ≡ 520 + sum (contents_claims contents.now.objects.items contents.now.actions.items)) }
     ensures refused { IfErr result (λ error. Refuses size 520 (contents_claims contents.now.objects.items contents.now.actions.items) error) }
 {

@@ -10,13 +10,16 @@ use crate::lookup::{record_digest, root_of, slot_at};
 use crate::word::{digest_words, index_at};
 use cas_model::{Digest, Full, Place, Space};
 use std::alloc::{AllocError, AllocFailed};
+use thiserror::Error;
 
 /// Why nothing was built.
-#[derive(Clone, Copy, Debug, PartialEq, Eq)]
+#[derive(Clone, Copy, Debug, PartialEq, Eq, Drop, Error)]
 pub enum BuildError {
     /// A claim passes the end of the region.
+    #[error("{0}")]
     Full(Full),
     /// There is no memory.
+    #[error("no memory")]
     Memory,
 }
 

@@ -5,8 +5,6 @@ mod building;
 mod insertion;
 mod lookup;
 mod slot;
-#[cfg(test)]
-mod tests;
 mod word;
 
 pub use building::{build, empty_words};

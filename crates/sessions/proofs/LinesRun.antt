@@ -4,14 +4,14 @@ use Rattle.std.specs.List.{AllByRecursion}
 use Rattle.std.proofs.lemmas.Option.{slice_get_within, slice_get_read}
 use Rattle.cas_model.specs.declared.call.Reply.{Reply}
 use Rattle.cas_history.specs.Script.{Before}
-use Rattle.cell_port.specs.Calls.{IsLawful}
-use Rattle.cell_port.specs.View.{View}
-use Rattle.generations.specs.declared.unified.Unified.{Unified}
-use Rattle.generations.specs.Upstream.{upstream_state}
+use Rattle.cas_port.specs.Calls.{IsLawful}
+use Rattle.cas_port.specs.View.{View}
+use Rattle.unified_cas.specs.declared.unified.Unified.{Unified}
+use Rattle.unified_cas.specs.Upstream.{upstream_state}
 use Rattle.graph_db.specs.Parts.{IsLawfulOrSame}
 use Rattle.graph_db.proofs.Found.{lawful-same-then}
-use Rattle.sessions.specs.declared.script.Line.{Line}
-use Rattle.sessions.specs.Lines.{history_line}
+use Rattle.cas_script.specs.declared.script.Line.{Line}
+use Rattle.cas_script.specs.Lines.{history_line}
 use Rattle.sessions.specs.Standing.{IsReady, StandsAt, HasRunFrom, HasStoppedFrom, before_line, HasRunSession, HasStoppedSession}
 use Rattle.sessions.specs.Turns.{history_lines, IsUnseen, AddsOfThese}
 use Rattle.sessions.proofs.Stood.{adds-self, adds-then, leaves-then, stands-unseen}

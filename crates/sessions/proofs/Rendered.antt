@@ -3,8 +3,8 @@ use Rattle.std.proofs.Common.{◌≡◌, ℕ, suc, ◌≤◌, List, [], ◌∷�
 use Rattle.cas_model.specs.declared.call.Reply.{Reply}
 use Rattle.cas_model.specs.declared.digest.Digest.{Digest}
 use Rattle.sessions.specs.declared.replies.SessionReplies.{SessionReplies}
-use Rattle.sessions.specs.declared.script.Line.{Line}
-use Rattle.sessions.specs.declared.script.Session.{Session}
+use Rattle.cas_script.specs.declared.script.Line.{Line}
+use Rattle.cas_script.specs.declared.script.Session.{Session}
 use Rattle.sessions.specs.Rendering.{named, refs_text, front_text, line_text, lines_text, own_count, sessions_text}
 use Rattle.sessions.proofs.LinesRun.{drop-at, drop-all}
 

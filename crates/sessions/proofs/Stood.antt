@@ -18,27 +18,27 @@ use Rattle.cas_history.specs.History.{history}
 use Rattle.cas_history.specs.Laws.{AreOfOtherSessions}
 use Rattle.cas_history.specs.Script.{At, Before, Missed, Brought, Line, Once, Action, at_after, call_at, moved}
 use Rattle.cas_history.proofs.Others.{others-conduct, others-entries}
-use Rattle.cell_port.specs.declared.block.OpenBlock.{OpenBlock}
-use Rattle.cell_port.specs.View.{View}
+use Rattle.cas_port.specs.declared.block.OpenBlock.{OpenBlock}
+use Rattle.cas_port.specs.View.{View}
 use Rattle.graph_db.specs.Events.{AreOf, CallDecided, Goes}
-use Rattle.generations.specs.Answers.{Answers, Stops}
+use Rattle.unified_cas.specs.Answers.{Answers, Stops}
 use Rattle.sessions.specs.declared.said.Said.{Said}
 use Rattle.sessions.specs.declared.said.Said.TheVariants as said
 use Rattle.graph_db.specs.Stores.{object_with}
-use Rattle.sessions.specs.declared.script.Line as script
-use Rattle.sessions.specs.declared.script.Line.TheVariants as lines
-use Rattle.sessions.specs.Lines.{history_line}
+use Rattle.cas_script.specs.declared.script.Line as script
+use Rattle.cas_script.specs.declared.script.Line.TheVariants as lines
+use Rattle.cas_script.specs.Lines.{history_line}
 use Rattle.sessions.specs.Standing.{Part, calls_of, decided_part, Knows, Stands, StandsAt, StandsStill, said_by, HasMade, IsCutOff, HasRunFrom, HasStoppedFrom, before_line}
 use Rattle.sessions.specs.Turns.{call_number, AreOfThese, AddsOfThese, LeavesOfThese}
 use Rattle.sessions.proofs.CallsMade.{get-split, calls-many, replies-many, one-longer, knows-before, knows-last, counted, decided-adds, opened-adds, asked-others, asked-beside, within-less, none-conduct, none-entries, none-asked}
 
 -- ---- which events are added
 
-these-append : (speaks : ℕ → Bool) (These : ℕ → Type 0) (xs ys : List Event) → AreOfThese speaks These xs → AreOfThese speaks These ys → AreOfThese speaks These (xs ++ ys)
+pub these-append : (speaks : ℕ → Bool) (These : ℕ → Type 0) (xs ys : List Event) → AreOfThese speaks These xs → AreOfThese speaks These ys → AreOfThese speaks These (xs ++ ys)
 these-append speaks These [] ys one two = two
 these-append speaks These (x ∷ xs) ys one two = (one.0, these-append speaks These xs ys one.1 two)
 
-these-more : (speaks : ℕ → Bool) (These Those : ℕ → Type 0) (es : List Event) → ((n : ℕ) → These n → Those n) → AreOfThese speaks These es → AreOfThese speaks Those es
+pub these-more : (speaks : ℕ → Bool) (These Those : ℕ → Type 0) (es : List Event) → ((n : ℕ) → These n → Those n) → AreOfThese speaks These es → AreOfThese speaks Those es
 these-more speaks These Those [] more own = tt
 these-more speaks These Those (e ∷ es) more own =
     (elim (own.0) [ inl other ↦ inl other | inr mine ↦ inr (more e.note.who.session mine) ], these-more speaks These Those es more own.1)

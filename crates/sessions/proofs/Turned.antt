@@ -13,9 +13,9 @@ use Rattle.cas_history.specs.Laws.{AreOfOtherSessions}
 use Rattle.cas_history.specs.Script.{Line, Follows, IsComplete, at_after, call_at}
 use Rattle.cas_history.specs.Theorem.{AllConduct}
 use Rattle.cas_history.proofs.Indexes.{count-up}
-use Rattle.cell_port.specs.View.{View}
+use Rattle.cas_port.specs.View.{View}
 use Rattle.sessions.specs.declared.replies.SessionReplies.{SessionReplies}
-use Rattle.sessions.specs.declared.script.Session.{Session}
+use Rattle.cas_script.specs.declared.script.Session.{Session}
 use Rattle.sessions.specs.Standing.{Part, calls_of, decided_part, made_in, Knows, IsNext, Stands, HasRunSession, HasStoppedSession}
 use Rattle.sessions.specs.Turns.{entries_in, replies_of, history_lines, IsUnseen, AreUnseen, AddsOfThese, LeavesOfThese, FollowsLines, FollowScript, HaveRun, HaveStopped}
 use Rattle.sessions.proofs.CallsMade.{none-conduct, get-split, calls-many, one-longer, counted}
@@ -27,11 +27,11 @@ use Rattle.sessions.proofs.Stood.{adds-self, adds-then, adds-more, adds-leaves, 
 abbrev pub map_of : (ℕ → Part) → Who → Option Call
 map_of plan who = slice_get (made_in (plan who.session)) who.index
 
-knows-own : (plan : ℕ → Part) (n : ℕ) → Knows (map_of plan) n (made_in (plan n))
+pub knows-own : (plan : ℕ → Part) (n : ℕ) → Knows (map_of plan) n (made_in (plan n))
 knows-own plan n = record { is = λ i call h. h }
 
 -- a call that has no entry is the next
-open-next : (lines : List Line) (part : Part) → IsNext (at_after lines part.entries) part.pending → (i : ℕ) (call : Call) → slice_get (made_in part) i ≡ Some call → length part.entries ≤ i
+pub open-next : (lines : List Line) (part : Part) → IsNext (at_after lines part.entries) part.pending → (i : ℕ) (call : Call) → slice_get (made_in part) i ≡ Some call → length part.entries ≤ i
     → (i ≡ length part.entries) × (call_at (at_after lines part.entries) ≡ Some call)
 open-next lines part next i call h past = step part.pending next h where
   many : length (calls_of part.entries) ≡ length part.entries
@@ -49,7 +49,7 @@ open-next lines part next i call h past = step part.pending next h where
   ]
 
 -- a session that stands follows its lines
-follows-lines : (v : View) (plan : ℕ → Part) (n : ℕ) (lines : List Line) → Stands v n lines (plan n) → FollowsLines v (map_of plan) n lines
+pub follows-lines : (v : View) (plan : ℕ → Part) (n : ℕ) (lines : List Line) → Stands v n lines (plan n) → FollowsLines v (map_of plan) n lines
 follows-lines v plan n lines stands =
     let knows = knows-own plan n in
     let conduct = stands.conduct (map_of plan) knows in

@@ -8,9 +8,9 @@ use Rattle.cas_model.specs.declared.object.Object.{Object}
 use Rattle.cas_model.specs.Id.{id_text}
 use Rattle.cas_model.specs.Tables.{same_digest}
 use Rattle.sessions.specs.declared.replies.SessionReplies.{SessionReplies}
-use Rattle.sessions.specs.declared.script.Line.{Line}
-use Rattle.sessions.specs.declared.script.Line.TheVariants.{Store, Load, Put, Get, Act}
-use Rattle.sessions.specs.declared.script.Session.{Session}
+use Rattle.cas_script.specs.declared.script.Line.{Line}
+use Rattle.cas_script.specs.declared.script.Line.TheVariants.{Store, Load, Put, Get, Act}
+use Rattle.cas_script.specs.declared.script.Session.{Session}
 
 -- ---- pieces
 

@@ -11,10 +11,10 @@ use Rattle.cas_model.specs.Step.{Entry}
 use Rattle.cas_history.specs.Conduct.{HasConduct}
 use Rattle.cas_history.specs.Cost.{asked, IsWithinCost}
 use Rattle.cas_history.specs.Script.{At, Before, Missed, Line, Follows, at_after, call_at}
-use Rattle.cell_port.specs.View.{View}
-use Rattle.generations.specs.declared.unified.Unified.{Unified}
-use Rattle.generations.specs.Answers.{Answers, Stops}
-use Rattle.generations.specs.Upstream.{upstream_state}
+use Rattle.cas_port.specs.View.{View}
+use Rattle.unified_cas.specs.declared.unified.Unified.{Unified}
+use Rattle.unified_cas.specs.Answers.{Answers, Stops}
+use Rattle.unified_cas.specs.Upstream.{upstream_state}
 use Rattle.sessions.specs.declared.said.Said.{Said}
 use Rattle.sessions.specs.declared.said.Said.TheVariants as said
 use Rattle.sessions.specs.Turns.{call_number, entries_in, replies_of, AddsOfThese, LeavesOfThese}

@@ -4,8 +4,8 @@ use Rattle.std.specs.declared.option.Option.{Option}
 use Rattle.cas_model.specs.declared.call.Reply.{Reply}
 use Rattle.cas_model.specs.declared.call.Reply.TheVariants.{Full}
 use Rattle.sessions.specs.declared.replies.SessionReplies.{SessionReplies}
-use Rattle.sessions.specs.declared.script.Line.{Line}
-use Rattle.sessions.specs.declared.script.Session.{Session}
+use Rattle.cas_script.specs.declared.script.Line.{Line}
+use Rattle.cas_script.specs.declared.script.Session.{Session}
 use Rattle.sessions.specs.Rendering.{own_count}
 
 -- a reply that a claim was refused

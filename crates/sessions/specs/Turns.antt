@@ -11,12 +11,12 @@ use Rattle.cas_history.specs.Cost.{asked, IsWithinCost}
 use Rattle.cas_history.specs.History.{history, of_session, CountUp}
 use Rattle.cas_history.specs.Laws.{AreOfOtherSessions}
 use Rattle.cas_history.specs.Script as script
-use Rattle.cell_port.specs.declared.block.OpenBlock.{OpenBlock}
-use Rattle.cell_port.specs.View.{View}
+use Rattle.cas_port.specs.declared.block.OpenBlock.{OpenBlock}
+use Rattle.cas_port.specs.View.{View}
 use Rattle.sessions.specs.declared.replies.SessionReplies.{SessionReplies}
-use Rattle.sessions.specs.declared.script.Line.{Line}
-use Rattle.sessions.specs.declared.script.Session.{Session}
-use Rattle.sessions.specs.Lines.{history_line}
+use Rattle.cas_script.specs.declared.script.Line.{Line}
+use Rattle.cas_script.specs.declared.script.Session.{Session}
+use Rattle.cas_script.specs.Lines.{history_line}
 
 -- ---- before the run
 

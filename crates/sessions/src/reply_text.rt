@@ -3,9 +3,8 @@ ghost use Rattle.std.specs.Prelude.{◌≡◌, ◌++◌, ◌∷◌, codes, decim
 ghost use Rattle.cas_model.specs.Id.{id_text};
 ghost use Rattle.sessions.specs.Rendering.{named, data_text, refs_text, found_text, put_text, refused_text, put_reply_text, once_text, made_text, act_text, line_text, front_text};
 
-use crate::Line;
 use cas_model::{Digest, Id, Object, Reply};
-use itoa::Buffer;
+use cas_script::{Line, push_number};
 use std::alloc::{AllocError, Global};
 
 /// Adds what a line was answered, by the first of these replies.
@@ -196,12 +195,4 @@ fn push_named(
     text.extend_from_slice(word)?;
     let id = Id { digest }.text(alloc)?;
     text.extend_from_slice(&id)
-}
-
-/// Adds a number in decimal digits.
-pub fn push_number(text: &mut Vec<u8>, number: u64) -> Result<(), AllocError>
-    ensures { OnOk result (text.new.items ≡ text.old.items ++ decimal number) }
-{
-    let mut digits = Buffer::new();
-    text.extend_from_slice(digits.format(number).as_bytes())
 }

@@ -1,21 +1,24 @@
 // Running sessions in turn.
-ghost use Rattle.std.specs.Prelude.{◌≡◌, ◌<◌, ◌≤◌, length, option_copied, IfOk, OnErr};
-ghost use Rattle.generations.specs.Upstream.{upstream_state};
+ghost use Rattle.std.specs.Prelude.{◌≡◌, ◌<◌, length, option_copied, IfOk, OnErr};
+ghost use Rattle.unified_cas.specs.Upstream.{upstream_state};
 ghost use Rattle.graph_db.specs.Parts.{IsLawfulOrSame};
-ghost use Rattle.sessions.specs.Limits.{FitsScript, FitsSession};
-ghost use Rattle.sessions.specs.Standing.{HasRunSession, HasStoppedSession};
-ghost use Rattle.sessions.specs.Turns.{AreUnseen, IsUnseen, HaveRun, HaveStopped, history_lines};
+ghost use Rattle.cas_script.specs.Limits.{FitsScript};
+ghost use Rattle.sessions.specs.Order.{AddsInTurn};
+ghost use Rattle.sessions.specs.Turns.{AreUnseen, HaveRun, HaveStopped};
 
+use crate::session::run_session;
 use crate::turn::Turn;
-use crate::{Replies, ReplyList, Script, Session, SessionReplies, SessionReplyList};
+use crate::{Replies, SessionReplyList};
 use cas_outside::Gate;
-use cell_port::CellPort;
+use cas_port::CellPort;
+use cas_script::Script;
 use frozen_store::Frozen;
-use generations::Unified;
 use std::alloc::{AllocError, Global};
+use unified_cas::Unified;
 
 /// Runs the sessions of a script one after another, in rising order, over the generation before the primary, where there is
-/// one, and answers the reply of each call.
+/// one, and answers the reply of each call. Once a session has added an event, no session below it adds one, also where
+/// memory runs out. Events of sessions that the port does not speak for may stand between them.
 ///
 /// Sessions and the calls of a session are numbered from 0. The gate stands round each call. The rules of a script's lines
 /// are this project's own. An error is want of memory: of the port, for what is loaded or brought in, or for a reply.
@@ -31,6 +34,7 @@ pub fn run_in_turn<P: CellPort, G: Gate>(
     requires unseen { AreUnseen (P.view port.old) (length script.now.sessions) }
     ensures ok { IfOk result (λ replies. HaveRun script.now.sessions replies.sessions (P.view port.old) (P.view port.new)) }
     ensures err { OnErr result (HaveStopped script.now.sessions (P.view port.old) (P.view port.new)) }
+    ensures in_turn { AddsInTurn (P.view port.old) (P.view port.new) }
     ensures lawful { IsLawfulOrSame (P.view port.old) (P.view port.new) }
 {
     let unified = Unified { up };
@@ -46,27 +50,5 @@ pub fn run_in_turn<P: CellPort, G: Gate>(
     }
     Ok(Replies {
         sessions: SessionReplyList::from_vec(replies),
-    })
-}
-
-// Runs a session to its end.
-fn run_session<P: CellPort, G: Gate>(
-    turn: &Turn<'_, G>,
-    port: &mut P,
-    session: &Session,
-) -> Result<SessionReplies, AllocError>
-    requires upstream { (P.view port.old).upstream ≡ upstream_state (option_copied turn.now.unified.up) }
-    requires fits { FitsSession session.now }
-    requires unseen { IsUnseen (P.view port.old) turn.now.session }
-    ensures ok { IfOk result (λ own. HasRunSession turn.now.session (history_lines session.now.lines) own.replies (P.view port.old) (P.view port.new)) }
-    ensures err { OnErr result (HasStoppedSession turn.now.session (history_lines session.now.lines) (P.view port.old) (P.view port.new)) }
-    ensures lawful { IsLawfulOrSame (P.view port.old) (P.view port.new) }
-{
-    let mut replies = Vec::new(turn.alloc);
-    for line in session.lines.list() {
-        turn.run_line(port, line, &mut replies)?;
-    }
-    Ok(SessionReplies {
-        replies: ReplyList::from_vec(replies),
     })
 }

@@ -1,12 +1,13 @@
 // What is counted of a script that was run.
 ghost use Rattle.std.specs.Prelude.{◌≡◌, take, length, IfOk};
-ghost use Rattle.sessions.specs.Limits.{FitsScript};
+ghost use Rattle.cas_script.specs.Limits.{FitsScript};
 ghost use Rattle.sessions.specs.Rendering.{own_count};
 ghost use Rattle.sessions.specs.Summary.{ends_full, full_in_session, full_in, summary_text};
 
-use crate::batch::{after, own_count};
-use crate::{Line, Replies, Script};
+use crate::Replies;
+use crate::rendering::{after, own_count};
 use cas_model::Reply;
+use cas_script::{Line, Script};
 use frozen_store::Counts;
 use std::alloc::{AllocError, Global};
 

@@ -2,20 +2,20 @@
 ghost use Rattle.std.specs.Prelude.{◌≡◌, ◌+◌, ◌<◌, ◌≤◌, ◌^◌, ◌∷◌, ◌++◌, [], length, IfOk, OnOk, OnErr};
 ghost use Rattle.cas_history.specs.Script.{Action};
 ghost use Rattle.cas_model.specs.declared.call.Call.TheVariants.{Store, Load, Put, Get};
-ghost use Rattle.cell_port.specs.Calls.{IsLawful};
+ghost use Rattle.cas_port.specs.Calls.{IsLawful};
 ghost use Rattle.graph_db.specs.Stores.{object_with};
-ghost use Rattle.sessions.specs.Limits.{FitsLine};
-ghost use Rattle.sessions.specs.Lines.{history_line};
+ghost use Rattle.cas_script.specs.Limits.{FitsLine};
+ghost use Rattle.cas_script.specs.Lines.{history_line};
 ghost use Rattle.sessions.specs.Standing.{HasMade, IsCutOff, IsReady, HasRunFrom, HasStoppedFrom, before_line, after_miss};
 ghost use Rattle.sessions.specs.Turns.{call_number};
 
-use crate::Line;
 use crate::said::{Said, keep};
 use cas_model::{Digest, Reply, Who};
 use cas_outside::Gate;
-use cell_port::CellPort;
-use generations::Unified;
+use cas_port::CellPort;
+use cas_script::Line;
 use std::alloc::{AllocError, Global};
+use unified_cas::Unified;
 
 /// A session at work: the store that it asks, the gate round its calls, and its number. Its calls are numbered from 0.
 #[derive(Drop)]

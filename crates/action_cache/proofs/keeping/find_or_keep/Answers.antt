@@ -1,4 +1,4 @@
-use Rattle.cell_port.specs.declared.block.PortError.TheVariants.{Memory}
+use Rattle.cas_port.specs.declared.block.PortError.TheVariants.{Memory}
 use Rattle.graph_db.proofs.Steps.{err-made, ok-then}
 use Rattle.action_cache.proofs.KeySteps.{err-then}
 use Rattle.action_cache.proofs.KeyKept.{key-stops, sought-keeps, filled-stays, agrees-stays, value-stays, miss-keeps, miss-stops}

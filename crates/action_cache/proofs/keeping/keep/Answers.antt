@@ -1,4 +1,4 @@
-use Rattle.cell_port.specs.declared.block.PortError.TheVariants.{Memory}
+use Rattle.cas_port.specs.declared.block.PortError.TheVariants.{Memory}
 use Rattle.graph_db.proofs.Steps.{err-made}
 use Rattle.action_cache.proofs.KeyKept.{bind-stops, place-fill, fill-stops, fill-keeps}
 use Rattle.action_cache.proofs.keeping.keep.Goals as goal

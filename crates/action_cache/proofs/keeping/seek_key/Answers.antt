@@ -1,9 +1,9 @@
 use Rattle.std.proofs.Common.{Some}
 use Rattle.cas_model.specs.declared.place.Space.TheVariants.{Actions}
-use Rattle.cell_port.specs.Calls.{Looked}
+use Rattle.cas_port.specs.Calls.{Looked}
 use Rattle.action_cache.proofs.KeySought.{looked-none, looked-record, read-sought, looked-wants}
 use Rattle.graph_db.proofs.Steps.{ok-then, on-err-then}
-use Rattle.action_cache.specs.Keys.{key_note}
+use Rattle.cas_model.specs.Notes.{key_note}
 use Rattle.action_cache.proofs.keeping.seek_key.Goals as goal
 
 pub read-requires-clause-bound : goal.read-requires-clause-bound

@@ -1,9 +1,9 @@
 use Rattle.std.proofs.Common.{Some}
 use Rattle.cas_model.specs.declared.place.Space.TheVariants.{Objects}
-use Rattle.cell_port.specs.declared.block.PortError.TheVariants.{Memory}
-use Rattle.cell_port.specs.Calls.{Looked}
+use Rattle.cas_port.specs.declared.block.PortError.TheVariants.{Memory}
+use Rattle.cas_port.specs.Calls.{Looked}
 use Rattle.graph_db.proofs.Steps.{err-made, ok-then}
-use Rattle.action_cache.specs.Brings.{deep_note}
+use Rattle.cas_model.specs.Notes.{deep_note}
 use Rattle.action_cache.proofs.KeySteps.{err-then}
 use Rattle.action_cache.proofs.PutGot.{bring-none, bring-wants, deep-filled, deep-agrees, has-brought, bring-stops}
 use Rattle.action_cache.proofs.putting.bring_counted.Goals as goal

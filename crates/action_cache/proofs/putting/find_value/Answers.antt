@@ -1,8 +1,8 @@
 use Rattle.std.proofs.Common.{Some}
 use Rattle.cas_model.specs.declared.place.Space.TheVariants.{Objects}
-use Rattle.cell_port.specs.Calls.{Looked}
+use Rattle.cas_port.specs.Calls.{Looked}
 use Rattle.graph_db.specs.declared.error.StoreError.TheVariants.{Memory}
-use Rattle.graph_db.specs.Stores.{ref_note}
+use Rattle.cas_model.specs.Notes.{ref_note}
 use Rattle.graph_db.proofs.Sought.{looked-record, looked-wants}
 use Rattle.graph_db.proofs.Steps.{err-made}
 use Rattle.action_cache.proofs.PutGot.{has-value, value-none, value-unfilled}

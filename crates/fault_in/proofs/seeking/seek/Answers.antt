@@ -1,6 +1,7 @@
 use Rattle.graph_db.proofs.Found.{not-zero-less}
 use Rattle.graph_db.proofs.Steps.{ends-on}
 use Rattle.fault_in.proofs.Costs.{asks-wants}
+use Rattle.fault_in.proofs.Quiet.{look-quiet, look-wants-quiet, read-quiet}
 use Rattle.fault_in.proofs.Sought.{look-asks, look-wants-asks, looked-none, looked-record, looked-wants, read-asks, read-found, read-missed}
 use Rattle.fault_in.proofs.seeking.seek.Goals as goal
 
@@ -36,3 +37,15 @@ returns-then-branch-eq0-clause-cost g c = read-asks c.args.who c.args.digest.now
 
 pub returns-else-branch-eq0-clause-cost : goal.returns-else-branch-eq0-clause-cost
 returns-else-branch-eq0-clause-cost g c = read-asks c.args.who c.args.digest.now _ _ _ _ c.in-Some.place _ c.requires c.in_ok-look.ensures.ok c.in_ok-read-in-Some.ensures.ok
+
+pub returns-in_err-read-in-Some-clause-quiet : goal.returns-in_err-read-in-Some-clause-quiet
+returns-in_err-read-in-Some-clause-quiet g c = look-wants-quiet c.args.who c.args.digest.now _ _ _ _ c.requires c.in_ok-look.ensures.ok c.in_err-read-in-Some.ensures.err
+
+pub returns-in-None-clause-quiet : goal.returns-in-None-clause-quiet
+returns-in-None-clause-quiet g c = look-quiet c.args.who c.args.digest.now _ _ _ c.requires c.in_ok-look.ensures.ok
+
+pub returns-then-branch-eq0-clause-quiet : goal.returns-then-branch-eq0-clause-quiet
+returns-then-branch-eq0-clause-quiet g c = read-quiet c.args.who c.args.digest.now _ _ _ _ c.in-Some.place _ c.requires c.in_ok-look.ensures.ok c.in_ok-read-in-Some.ensures.ok
+
+pub returns-else-branch-eq0-clause-quiet : goal.returns-else-branch-eq0-clause-quiet
+returns-else-branch-eq0-clause-quiet g c = read-quiet c.args.who c.args.digest.now _ _ _ _ c.in-Some.place _ c.requires c.in_ok-look.ensures.ok c.in_ok-read-in-Some.ensures.ok

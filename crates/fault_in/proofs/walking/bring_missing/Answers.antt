@@ -1,7 +1,9 @@
 use Rattle.std.proofs.Common.{◌∙◌}
 use Rattle.fault_in.specs.declared.error.FaultInError.TheVariants.{Memory}
-use Rattle.graph_db.proofs.Steps.{err-made}
-use Rattle.fault_in.proofs.Ended.{found-there, missed-stops, none-told, root-missing, root-speaks, root-upstream, some-told, tree-stops, tree-there}
+use Rattle.graph_db.proofs.Steps.{ends-on, err-made}
+use Rattle.fault_in.specs.Order.{stops}
+use Rattle.fault_in.proofs.Ordered.{root-passed, root-stopped, root-visited}
+use Rattle.fault_in.proofs.Ended.{found-there, missed-stops, none-told, root-missing, root-speaks, root-start, root-upstream, some-told, tree-stops, tree-there}
 use Rattle.fault_in.proofs.walking.bring_missing.Goals as goal
 use Rattle.fault_in.proofs.walking.bring_missing.Goals.{then-is_none+in_ok-root+in_ok-bring_tree, else-is_none}
 
@@ -35,4 +37,27 @@ returns-clause-ok g c = elim c.if-is_none.branch [
       w.in_ok-bring_tree.ensures.ok)
   | else-is_none w ↦ rw w.port-is
       (found-there c.args.who c.args.digest.now _ _ c.in_ok-seek.ensures.lawful c.in_ok-seek.field-0 c.in_ok-seek.ensures.ok c.in_ok-seek.ensures.cost (some-told _ _ c.is_none.ensures w.if-is_none.false))
+]
+
+pub returns-in_err-seek-clause-order_so_far : goal.returns-in_err-seek-clause-order_so_far
+returns-in_err-seek-clause-order_so_far g c = ends-on _ (stops c.in_err-seek.ensures.quiet)
+
+pub returns-in_err-root-clause-order_so_far : goal.returns-in_err-root-clause-order_so_far
+returns-in_err-root-clause-order_so_far g c = ends-on _ (stops c.in_ok-seek.ensures.quiet)
+
+pub returns-in_err-bring_tree-clause-order_so_far : goal.returns-in_err-bring_tree-clause-order_so_far
+returns-in_err-bring_tree-clause-order_so_far g c =
+    ends-on _ (root-stopped _ c.args.who c.args.digest.now _ (g.P.CellPort.view c.args.port.now) (g.P.CellPort.view c.seek.new.port) (g.P.CellPort.view c.bring_tree.new.port) c.in_ok-root.ensures.digest_is
+    (root-start c.args.who c.args.digest.now _ _ c.in_ok-seek.ensures.lawful c.in_ok-seek.field-0 c.in_ok-seek.ensures.ok c.in_ok-seek.ensures.cost (none-told _ _ c.is_none.ensures c.if-is_none.true)) c.in_ok-seek.ensures.quiet
+    c.in_err-bring_tree.ensures.order_so_far)
+
+pub returns-clause-order : goal.returns-clause-order
+returns-clause-order g c = elim c.if-is_none.branch [
+  | then-is_none+in_ok-root+in_ok-bring_tree w ↦ rw w.port-is
+      (root-visited _ c.args.who c.args.digest.now _ (g.P.CellPort.view c.args.port.now) (g.P.CellPort.view c.seek.new.port) (g.P.CellPort.view w.bring_tree.new.port) w.in_ok-root.ensures.digest_is
+      (root-start c.args.who c.args.digest.now _ _ c.in_ok-seek.ensures.lawful c.in_ok-seek.field-0 c.in_ok-seek.ensures.ok c.in_ok-seek.ensures.cost (none-told _ _ c.is_none.ensures w.if-is_none.true)) c.in_ok-seek.ensures.quiet
+      w.in_ok-bring_tree.ensures.order)
+  | else-is_none w ↦ rw w.port-is
+      (root-passed _ c.args.who c.args.digest.now (g.P.CellPort.view c.args.port.now) (g.P.CellPort.view c.seek.new.port) _ c.in_ok-seek.ensures.lawful c.in_ok-seek.ensures.quiet c.in_ok-seek.ensures.ok
+      (some-told _ _ c.is_none.ensures w.if-is_none.false))
 ]

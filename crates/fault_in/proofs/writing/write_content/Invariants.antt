@@ -1,6 +1,6 @@
 use Rattle.std.proofs.Common.{◌≡◌, ◌+◌, length}
 use Rattle.cas_model.specs.Content.{content_words}
-use Rattle.cell_port.specs.Calls.{IsLawful}
+use Rattle.cas_port.specs.Calls.{IsLawful}
 use Rattle.graph_db.specs.Parts.{partly}
 use Rattle.fault_in.specs.Parts.{HasWords}
 use Rattle.fault_in.proofs.writing.write_content.Given as goal

@@ -1,5 +1,5 @@
 use Rattle.std.proofs.Common.{◌∙◌}
-use Rattle.cell_port.specs.View.{tables}
+use Rattle.cas_port.specs.View.{tables}
 use Rattle.graph_db.proofs.Loaded.{record-step}
 use Rattle.graph_db.proofs.loading.record_digest.Goals as goal
 

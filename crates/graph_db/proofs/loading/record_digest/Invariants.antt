@@ -1,6 +1,6 @@
 use Rattle.std.proofs.Common.{◌≡◌, ◌*◌, take, length}
 use Rattle.cas_model.specs.Tables.{digest_at}
-use Rattle.cell_port.specs.View.{tables}
+use Rattle.cas_port.specs.View.{tables}
 use Rattle.graph_db.proofs.loading.record_digest.Given as goal
 
 -- eight bytes a word were read

@@ -1,6 +1,6 @@
 use Rattle.std.proofs.Common.{Some}
 use Rattle.cas_model.specs.declared.place.Space.TheVariants.{Objects}
-use Rattle.cell_port.specs.Calls.{Looked}
+use Rattle.cas_port.specs.Calls.{Looked}
 use Rattle.graph_db.proofs.Sought.{looked-none, looked-record, read-sought, looked-wants}
 use Rattle.graph_db.proofs.Steps.{ok-then, on-err-then}
 use Rattle.graph_db.proofs.seeking.seek.Goals as goal

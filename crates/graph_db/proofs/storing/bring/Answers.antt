@@ -1,5 +1,5 @@
 use Rattle.std.proofs.Common.{arith}
-use Rattle.cell_port.specs.declared.block.PortError.TheVariants.{Memory}
+use Rattle.cas_port.specs.declared.block.PortError.TheVariants.{Memory}
 use Rattle.graph_db.proofs.Brought.{begun, bind-stops, claim-stops, write-stopped, fill-whole, fill-stops, fill-brings}
 use Rattle.graph_db.proofs.Steps.{err-made}
 use Rattle.graph_db.proofs.storing.bring.Goals as goal
@@ -10,7 +10,7 @@ returns-in_err-bound-clause-err g c = err-made _ _ _ c.from_residual.ensures.1 (
 pub returns-in_err-block-clause-err : goal.returns-in_err-block-clause-err
 returns-in_err-block-clause-err g c =
     err-made _ _ _ c.from_residual-in_err-block.ensures.1
-    (claim-stops _ _ _ _ _ _ _ _ _ c.requires.speaks c.requires.digest c.requires.refs c.requires.missed c.in_ok-bound.ensures.ok c.in_ok-bound.ensures.lawful (rw c.content_length.ensures at c.in_err-block.ensures.err))
+    (claim-stops _ _ _ _ _ _ _ _ _ c.requires.speaks c.requires.digest c.requires.refs c.requires.missed c.in_ok-bound.ensures.ok c.in_ok-bound.ensures.lawful c.in_err-block.ensures.lawful (rw c.content_length.ensures at c.in_err-block.ensures.err))
 
 pub write_content-requires-clause-refs : goal.write_content-requires-clause-refs
 write_content-requires-clause-refs g c =

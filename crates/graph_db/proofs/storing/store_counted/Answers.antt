@@ -24,7 +24,7 @@ bring-requires-clause-lacks g c =
 pub returns-in_err-bring-clause-err : goal.returns-in_err-bring-clause-err
 returns-in_err-bring-clause-err g c =
     err-made _ _ _ c.from_residual-in_err-bring.ensures.1
-    (bring-refused _ _ _ _ _ _ c.requires.digest c.in_ok-find_refs.ensures.ok _ (rw c.if-branch-eq0.true at c.in_ok-seek.ensures.ok) c.in_ok-seek.ensures.lawful _ _ c.in_err-bring.ensures.err)
+    (bring-refused _ _ _ _ _ _ c.requires.digest c.in_ok-find_refs.ensures.ok _ (rw c.if-branch-eq0.true at c.in_ok-seek.ensures.ok) c.in_ok-seek.ensures.lawful _ _ c.requires.speaks c.in_err-bring.ensures.err)
 
 pub returns-clause-ok : goal.returns-clause-ok
 returns-clause-ok g c = elim c.if-branch-eq0.branch [

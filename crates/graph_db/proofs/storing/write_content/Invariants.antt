@@ -1,7 +1,7 @@
 use Rattle.std.proofs.Common.{◌≡◌, ◌+◌, length}
 use Rattle.cas_model.specs.Content.{content_words}
-use Rattle.cell_port.specs.Calls.{IsLawful}
-use Rattle.cell_port.specs.View.{tables}
+use Rattle.cas_port.specs.Calls.{IsLawful}
+use Rattle.cas_port.specs.View.{tables}
 use Rattle.graph_db.specs.Stores.{object_with}
 use Rattle.graph_db.specs.Parts.{Writes, partly, places_in}
 use Rattle.graph_db.proofs.storing.write_content.Given as goal

@@ -34,7 +34,7 @@ pub returns-clause-added : goal.returns-clause-added
 returns-clause-added c = λ heap objects building next.
     let d_is : c.of-digest.result ≡ object_digest c.args.object.now = c.of-digest.ensures ∙ (λ i. digest_of (c.list.ensures i) (c.list-2.ensures i)) in
     let ready = ready_for heap c.args.words.now.items objects [] c.args.object.now c.of-digest.result building next d_is in
-    let done = object_done heap objects [] c.args.words.now.items c.insert_record.new.words.items c.push_content.new.words.items c.args.object.now c.of-digest.result c.in_ok-owner.owner.at c.in_ok-content.content building next d_is
+    let done = object_done heap objects c.args.words.now.items c.insert_record.new.words.items c.push_content.new.words.items c.args.object.now c.of-digest.result c.in_ok-owner.owner.at c.in_ok-content.content building next d_is
     (c.in_ok-owner.ensures.inserted heap (object_digests objects) ready) c.in_ok-owner.ensures.place c.in_ok-content.ensures.content c.in_ok-content.ensures.place c.in_ok-content.ensures.bytes in
     record { built = done.0; grown = done.1 }
 

@@ -4,7 +4,8 @@ use Rattle.cas_model.specs.declared.contents.Pair.{Pair}
 use Rattle.cas_model.specs.declared.object.Object.{Object}
 use Rattle.cas_model.specs.Contents.{contents_state}
 use Rattle.region_core.specs.Builds.{empty_region, HasCertificate}
-use Rattle.region_core.proofs.Finishing.{objects_start, object_can, object_more, object_refused, pairs_start, pair_can, pair_more, pair_refused, finished, finished_long, certificate_stands, empty_long, first_rest, first_rest_or}
+use Rattle.region_core.specs.Places.{LieInOrder}
+use Rattle.region_core.proofs.Finishing.{objects_start, object_can, object_more, object_refused, pairs_start, pair_can, pair_more, pair_refused, finished, finished_places, finished_long, certificate_stands, empty_long, first_rest, first_rest_or}
 use Rattle.region_core.proofs.Inserting.{head_then}
 use Rattle.region_core.proofs.building.build.Goals as goal
 
@@ -84,6 +85,13 @@ returns-clause-certified c =
 
 pub returns-clause-stands : goal.returns-clause-stands
 returns-clause-stands c = certificate_stands (set c.loop-pair.words.items 3 c.len.result) c.args.size (contents_state c.args.contents.now.objects.items c.args.contents.now.actions.items) (returns-clause-certified c)
+
+pub returns-clause-places : goal.returns-clause-places
+returns-clause-places c =
+    let end : c.len.result ≡ length c.loop-pair.words.items = omega (arith, c.len.ensures, c.loop-pair.words.ok) in
+    subst (λ n. LieInOrder (set c.loop-pair.words.items 3 n) c.args.contents.now.objects.items c.args.contents.now.actions.items) (sym end)
+    (finished_places c.loop-pair.words.items c.args.contents.now.objects.items c.args.contents.now.actions.items c.loop-pair.pair-index c.loop-pair.invariant.added
+    (subst (λ (xs : List Pair). length xs ≤ c.loop-pair.pair-index) c.deref-pair-items.ensures.value c.loop-pair-test.false))
 
 pub returns-clause-long : goal.returns-clause-long
 returns-clause-long c =

@@ -2,11 +2,11 @@
 use Rattle.std.proofs.Common.{◌<◌, ◌≤◌, List, length, ap, sym, ◌∙◌, arith, add-one}
 use Rattle.cas_model.specs.declared.call.Reply.{Reply}
 use Rattle.sessions.specs.declared.replies.SessionReplies.{SessionReplies}
-use Rattle.sessions.specs.declared.script.Line.{Line}
-use Rattle.sessions.specs.Limits.{FitsSession}
+use Rattle.cas_script.specs.declared.script.Line.{Line}
+use Rattle.cas_script.specs.Limits.{FitsSession}
 use Rattle.sessions.specs.Summary.{full_in_session}
 use Rattle.sessions.proofs.LinesRun.{item-at, all-at}
-use Rattle.sessions.proofs.Worked.{full-few, full-next}
+use Rattle.sessions.proofs.Counted.{full-few, full-next}
 use Rattle.sessions.proofs.tally.full_lines.Goals as goal
 
 -- it has at most 65,536

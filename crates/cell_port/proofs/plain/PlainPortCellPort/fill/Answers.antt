@@ -1,6 +1,6 @@
 use Rattle.std.proofs.Common.{◌≡◌, ℕ, ◌∙◌, ap}
 use Rattle.cell_port.specs.Tables.{PlainRows}
-use Rattle.cell_port.specs.View.{open_words, written_words}
+use Rattle.cas_port.specs.View.{open_words, written_words}
 use Rattle.cell_port.proofs.PlainKeeps.{keeps-opens, keeps-fill, whole-some}
 use Rattle.cell_port.proofs.PlainOpens.{open-found}
 use Rattle.cell_port.proofs.PlainTies.{tied-close, tied-whole, rows-counter, filled-view}

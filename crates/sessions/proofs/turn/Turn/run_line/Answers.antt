@@ -1,7 +1,7 @@
 -- a line of one call, or of an action
 use Rattle.std.proofs.Common.{ap}
 use Rattle.graph_db.proofs.Steps.{ends-on}
-use Rattle.sessions.specs.Lines.{history_line}
+use Rattle.cas_script.specs.Lines.{history_line}
 use Rattle.sessions.proofs.Stood.{line-ends, line-stops, store-line}
 use Rattle.sessions.proofs.turn.Turn.run_line.Goals as goal
 

@@ -1,0 +1,13 @@
+pub mod PieceLists
+pub mod Digits
+pub mod Names
+pub mod LineForms
+pub mod Sections
+pub mod Readings
+pub mod Refused
+pub mod ParserSteps
+pub mod Progress
+pub mod Fitting
+pub mod FirstRefusal
+pub mod WorkFits
+pub mod MadeLists

@@ -1,7 +1,0 @@
-use Rattle.std.proofs.Common.{◌≡◌, drop}
-use Rattle.cas_tool.specs.Rotation.{any_outgrows}
-use Rattle.cas_tool.proofs.rotation.any_outgrows.Given as goal
-
--- no reply so far says so
-abbrev pub invariant-loop-reply : goal.invariant-loop-reply
-invariant-loop-reply l = any_outgrows (drop l.reply-index l.replies) ≡ any_outgrows l.replies

@@ -1,5 +1,0 @@
--- the counter is its own
-use Rattle.cell_port.proofs.tests.digests_that_differ_in_their_last_nibble_need_62_subtries.Given as goal
-
-abbrev pub ghosts-bind_two : goal.ghosts-bind_two
-ghosts-bind_two g a = record { name = a.blank.name; parts = a.blank.parts }

@@ -1,6 +1,0 @@
-use Rattle.std.proofs.Common.{◌≡◌, length}
-use Rattle.cell_port.proofs.tests.words_are_written_in_any_order.Given as goal
-
--- the block keeps its length
-abbrev pub invariant-loop-index : goal.invariant-loop-index
-invariant-loop-index g l = length l.words ≡ 6

@@ -1,6 +1,0 @@
-use Rattle.std.proofs.Common.{◌≡◌}
-use Rattle.cell_port.proofs.tests.words_at.Given as goal
-
--- the port is as it was
-abbrev pub invariant-loop-index : goal.invariant-loop-index
-invariant-loop-index g l = g.P.CellPort.view l.port ≡ g.P.CellPort.view l.fn.port

@@ -1,8 +1,0 @@
--- the digests of the headers before the number
-use Rattle.std.proofs.Common.{◌≡◌, map}
-use Rattle.std.specs.List.{range_with_len}
-use Rattle.sessions.specs.Workload.{header_digest}
-use Rattle.sessions.proofs.work.digests.Given as goal
-
-abbrev pub invariant-loop-number : goal.invariant-loop-number
-invariant-loop-number l = l.digests.items ≡ map header_digest (range_with_len 0 l.number)

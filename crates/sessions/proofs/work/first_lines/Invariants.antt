@@ -1,8 +1,0 @@
--- the headers before the number are stored
-use Rattle.std.proofs.Common.{◌≡◌, map}
-use Rattle.std.specs.List.{range_with_len}
-use Rattle.sessions.specs.Workload.{header_line}
-use Rattle.sessions.proofs.work.first_lines.Given as goal
-
-abbrev pub invariant-loop-number : goal.invariant-loop-number
-invariant-loop-number l = l.lines.items ≡ map header_line (range_with_len 0 l.number)

@@ -1,7 +1,0 @@
--- the headers, and the work of the rounds before this one
-use Rattle.std.proofs.Common.{◌≡◌, ◌++◌}
-use Rattle.sessions.specs.Workload.{header_lines, work_lines}
-use Rattle.sessions.proofs.work.session_of.Given as goal
-
-abbrev pub invariant-loop-round : goal.invariant-loop-round
-invariant-loop-round l = l.lines.items ≡ header_lines ++ work_lines l.rounds l.session l.round

@@ -1,0 +1,7 @@
+pub mod AloneLemmas
+pub mod UnderWay
+pub mod LoadsOver
+pub mod GetsOver
+pub mod PutsOver
+pub mod StoresOver
+pub mod ReadingLemmas

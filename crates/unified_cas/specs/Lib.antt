@@ -1,0 +1,4 @@
+pub mod Answers
+pub mod Upstream
+pub mod Reading
+pub mod Over
