@@ -330,9 +330,6 @@ module _ (who : Who) (key : Digest) (value : Place) (old mid : View) (cell : ℕ
       subst (λ (d : Digest). Agrees (fin.get mid.upstream.cache key) d) (sym value-stays)
       (subst (λ (u : State). Agrees (fin.get u.cache key) (digest_at (tables old).bound value.at)) (sym (goes-upstream who old mid (key-goes who old mid h.goes))) agrees)
 
-  pub speaks-stays : SpeaksFor old who → SpeaksFor mid who
-  speaks-stays mine = goes-speaks who who old mid (key-goes who old mid h.goes) mine
-
 -- the record that a filled cell names
 module _ (s : Tables) (key : Digest) (cell : ℕ) (sound : IsSound s) (some : 0 < cell) (is : cell ≡ cell_under s Actions key) where
   its-kept : IsKept s key

@@ -1,5 +1,5 @@
 -- A key that has a value keeps it, so a look at it misses nothing.
-use Rattle.std.proofs.Common.{◌≡◌, ℕ, ◌⊎◌, inl, inr, true, None, Ok, Err, OnOk, is_some, ap, sym, ◌∙◌, subst}
+use Rattle.std.proofs.Common.{◌≡◌, ◌⊎◌, inl, inr, true, None, Ok, Err, OnOk, is_some, ap, sym, ◌∙◌, subst}
 use Rattle.std.specs.declared.result.Result.{Result}
 use Rattle.std.specs.FinMap as fin
 use Rattle.cas_model.specs.declared.call.Who.{Who}

@@ -1,5 +1,5 @@
 -- Looking for a key: a look, and a read of its record.
-use Rattle.std.proofs.Common.{◌≡◌, ℕ, List, [], ◌∷◌, ◌++◌, Bool, true, ◌==◌, inr, None, Some, is_none, is_some, refl, ap, sym, ◌∙◌, subst, arith}
+use Rattle.std.proofs.Common.{◌≡◌, ℕ, List, ◌∷◌, ◌++◌, Bool, true, ◌==◌, inr, None, Some, is_none, is_some, refl, ap, sym, ◌∙◌, subst, arith}
 use Rattle.std.specs.declared.option.Option.{Option}
 use Rattle.cas_model.specs.declared.call.Call.{Call}
 use Rattle.cas_model.specs.declared.call.Reply.{Reply}
@@ -25,7 +25,7 @@ use Rattle.graph_db.specs.Events.{SpeaksFor, Reads, Stands}
 use Rattle.graph_db.proofs.Steps.{stands-event, foreign-before, readings-foreign, reads-then, asked-readings}
 use Rattle.action_cache.specs.Keys.{MaySeekKey, GoesOnKey, HasSoughtKey, KeyStops}
 use Rattle.cas_model.specs.Notes.{key_note}
-use Rattle.action_cache.proofs.KeySteps.{key-foreign, key-goes-self, key-goes-then, key-more, key-read, key-look-quiet}
+use Rattle.action_cache.proofs.KeySteps.{key-foreign, key-goes-then, key-more, key-read, key-look-quiet}
 
 -- ---- the look
 
@@ -152,11 +152,6 @@ read-sought who key cell old mid new value mine looked lawful read =
     }
 
 -- ---- want of memory
-
-pub wants-key : (who : Who) (key : Digest) (old new : View) → WantsMemory old new → KeyStops who key old new
-wants-key who key old new wants =
-    subst (λ (v : View). KeyStops who key old v) (sym wants.same)
-    (record { takes = wants.takes; goes = key-goes-self who old; reads = record { more = []; is = refl; own = tt }; cost = omega arith; stands = λ calls call is may opens. opens })
 
 pub looked-wants : (who : Who) (key : Digest) (cell : Place) (old mid new : View) → SpeaksFor old who → Looked (key_note who) Actions key old mid (Some cell) → WantsMemory mid new → KeyStops who key old new
 looked-wants who key cell old mid new mine looked wants =

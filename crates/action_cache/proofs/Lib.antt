@@ -3,3 +3,4 @@ pub mod KeyLater
 pub mod KeySought
 pub mod KeyKept
 pub mod PutGot
+pub mod Refusals

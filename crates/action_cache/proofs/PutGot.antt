@@ -36,7 +36,7 @@ use Rattle.graph_db.specs.Errors.{store_error}
 use Rattle.graph_db.specs.Events.{SpeaksFor, Reads, Ends, Stands, seen_state}
 use Rattle.graph_db.specs.Holds.{HasSought}
 use Rattle.cas_model.specs.Notes.{ref_note, deep_note}
-use Rattle.graph_db.proofs.Steps.{are-foreign, goes-speaks, goes-upstream, goes-takes, reads-goes, ends-then, asked-readings}
+use Rattle.graph_db.proofs.Steps.{are-foreign, goes-upstream, goes-takes, reads-goes, ends-then, asked-readings}
 use Rattle.graph_db.proofs.Sought as graph
 use Rattle.graph_db.proofs.Found.{sought-ends, sought-last, missed-here, found-here, goes-grows, not-zero-test}
 use Rattle.action_cache.specs.Keys.{HasKey, MaySeekKey, MayKeep, AreOfKey, GoesOnKey, FindsKey, HasFoundKey, HasSoughtKey, KeyStops, KeepStops, Settles}
@@ -142,9 +142,6 @@ module _ (who : Who) (key value : Digest) (old mid : View) (place : Place) (v : 
   mid-up : mid.upstream ≡ old.upstream
   mid-up = goes-upstream who old mid (reads-goes who old mid v.sought.reads)
 
-  pub value-speaks : SpeaksFor old who → SpeaksFor mid who
-  value-speaks mine = goes-speaks who who old mid (reads-goes who old mid v.sought.reads) mine
-
   pub value-agrees : fin.get old.upstream.cache key ≡ None → Agrees (fin.get mid.upstream.cache key) (digest_at (tables mid).bound place.at)
   value-agrees lacks = subst (λ (o : Option Digest). Agrees o (digest_at (tables mid).bound place.at)) (sym (ap (λ (u : State). fin.get u.cache key) mid-up ∙ lacks)) tt
 
@@ -244,9 +241,6 @@ module _ (who : Who) (key value : Digest) (old mid : View) (place : Place) (mine
 
   deep-up : mid.upstream ≡ old.upstream
   deep-up = goes-upstream who old mid (reads-goes who old mid deep-reads)
-
-  pub deep-speaks : SpeaksFor mid who
-  deep-speaks = goes-speaks who who old mid (reads-goes who old mid deep-reads) mine
 
   deep-record : IsFilled (tables mid) place.at × (digest_at (tables mid).bound place.at ≡ value)
   deep-record =

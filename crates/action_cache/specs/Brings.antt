@@ -6,8 +6,6 @@ use Rattle.cas_model.specs.declared.call.Call.{Call}
 use Rattle.cas_model.specs.declared.call.Reply.TheVariants as reply
 use Rattle.cas_model.specs.declared.call.Who.{Who}
 use Rattle.cas_model.specs.declared.digest.Digest.{Digest}
-use Rattle.cas_model.specs.declared.note.Note.{Note}
-use Rattle.cas_model.specs.declared.note.Stage.TheVariants.{Deep}
 use Rattle.cas_model.specs.declared.place.Space.{Space}
 use Rattle.cas_history.specs.declared.event.Act.TheVariants.{Look}
 use Rattle.cas_history.specs.declared.event.Event.{Event}

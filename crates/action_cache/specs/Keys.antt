@@ -9,7 +9,6 @@ use Rattle.cas_model.specs.declared.call.Reply.{Reply}
 use Rattle.cas_model.specs.declared.call.Reply.TheVariants as reply
 use Rattle.cas_model.specs.declared.call.Who.{Who}
 use Rattle.cas_model.specs.declared.digest.Digest.{Digest}
-use Rattle.cas_model.specs.declared.note.Note.{Note}
 use Rattle.cas_model.specs.declared.note.Stage.TheVariants.{Key}
 use Rattle.cas_model.specs.declared.place.Space.TheVariants.{Actions}
 use Rattle.cas_model.specs.Primary.{cell_under}

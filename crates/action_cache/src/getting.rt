@@ -16,8 +16,8 @@ use std::sync::ledger::{Blank, Ledger};
 /// The value of a key: None exactly where the primary has none. An error comes only from the port.
 pub fn get<P: CellPort>(port: &mut P, who: Who, key: &Digest) -> Result<Option<Digest>, AllocError>
     requires { SpeaksFor (P.view port.old) who }
-    ensures ok { IfOk result (HasGot who key.now (P.view port.old) (P.view port.new)) }
-    ensures err { OnErr result (GetStops who key.now (P.view port.old) (P.view port.new)) }
+    ensures got { IfOk result (HasGot who key.now (P.view port.old) (P.view port.new)) }
+    ensures memory { OnErr result (GetStops who key.now (P.view port.old) (P.view port.new)) }
     ensures lawful { IsLawful (P.view port.old) (P.view port.new) }
 {
     find_key(port, who, key)
@@ -31,8 +31,8 @@ pub fn find_key<P: CellPort>(
     key: &Digest,
 ) -> Result<Option<Digest>, AllocError>
     requires { SpeaksFor (P.view port.old) who }
-    ensures ok { IfOk result (FindsKey who key.now (P.view port.old) (P.view port.new)) }
-    ensures err { OnErr result (KeyStops who key.now (P.view port.old) (P.view port.new)) }
+    ensures found { IfOk result (FindsKey who key.now (P.view port.old) (P.view port.new)) }
+    ensures memory { OnErr result (KeyStops who key.now (P.view port.old) (P.view port.new)) }
     ensures lawful { IsLawful (P.view port.old) (P.view port.new) }
 {
     find_key_counted::<Brand, P>(port, who, key, Blank::new(1))

@@ -8,9 +8,10 @@ ghost use Rattle.cas_history.specs.Lawful.{Agrees};
 ghost use Rattle.cas_port.specs.Calls.{IsLawful};
 ghost use Rattle.cas_port.specs.View.{tables};
 ghost use Rattle.graph_db.specs.Events.{Reads, SpeaksFor, seen_state};
+ghost use Rattle.graph_db.specs.Errors.{IfDangling, IfFull, OnMemory};
 ghost use Rattle.graph_db.specs.declared.error.StoreError.TheVariants.{Dangling};
 ghost use Rattle.action_cache.specs.Keys.{HasKey, Settles, KeepStops};
-ghost use Rattle.action_cache.specs.Puts.{HasKept, IsRefused, HasValue, ValueStops};
+ghost use Rattle.action_cache.specs.Puts.{HasKept, HasNoRoom, HasValue, IsRefused, LacksValue, PutStops, ValueStops};
 ghost use Rattle.action_cache.specs.Brings.{HasBrought, BringStops};
 
 use crate::keeping::find_or_keep;
@@ -33,8 +34,10 @@ pub fn put<P: CellPort>(
 ) -> Result<Digest, StoreError>
     requires speaks { SpeaksFor (P.view port.old) who }
     requires lacks { fin.get (P.view port.old).upstream.cache key.now ≡ None }
-    ensures ok { IfOk result (HasKept who key.now value.now (P.view port.old) (P.view port.new)) }
-    ensures err { IfErr result (IsRefused who key.now value.now (P.view port.old) (P.view port.new)) }
+    ensures kept { IfOk result (HasKept who key.now value.now (P.view port.old) (P.view port.new)) }
+    ensures dangling { IfErr result (IfDangling (LacksValue who key.now value.now (P.view port.old) (P.view port.new))) }
+    ensures full { IfErr result (IfFull (HasNoRoom who key.now value.now (P.view port.old) (P.view port.new))) }
+    ensures memory { IfErr result (OnMemory (PutStops who key.now value.now (P.view port.old) (P.view port.new))) }
     ensures lawful { IsLawful (P.view port.old) (P.view port.new) }
 {
     put_counted::<Brand, P>(port, who, key, value, Blank::new(1))
@@ -111,8 +114,8 @@ pub fn bring<P: CellPort>(
     requires speaks { SpeaksFor (P.view port.old) who }
     requires given { fin.get (P.view port.old).upstream.cache key.now ≡ Some value.now }
     requires there { has (seen_state (P.view port.old)) value.now ≡ true }
-    ensures ok { IfOk result (HasBrought who key.now (P.view port.old) (P.view port.new)) }
-    ensures err { IfErr result (BringStops who key.now (P.view port.old) (P.view port.new)) }
+    ensures brought { IfOk result (HasBrought who key.now (P.view port.old) (P.view port.new)) }
+    ensures stopped { IfErr result (BringStops who key.now (P.view port.old) (P.view port.new)) }
     ensures lawful { IsLawful (P.view port.old) (P.view port.new) }
 {
     bring_counted::<Brand, P>(port, who, key, value, Blank::new(1))

@@ -27,11 +27,10 @@ use Rattle.cas_history.specs.Run.{primary_of, tables}
 use Rattle.cas_history.proofs.Sound.{IsSound, sound-run}
 use Rattle.cas_history.proofs.Under.{kept-none, primary-act, under-none}
 use Rattle.frozen_store.specs.declared.frozen.Counts.{Counts}
-use Rattle.frozen_store.specs.Seen.{FrozenSeen}
 use Rattle.generations.specs.Rotation.{NeedsRotation}
 use Rattle.cas_command.specs.declared.closing.Images.{Images}
 use Rattle.cas_command.specs.declared.rotation.Rotation.{Rotation}
-use Rattle.cas_command.specs.Closing.{AreDue, Grows, IsClosedAt, IsImageDue, MayGrow, words_used}
+use Rattle.cas_command.specs.Closing.{AreDue, Grows, IsImageDue, MayGrow}
 use Rattle.cas_command.specs.Rotation.{IsNextDue}
 
 -- ---- maps
@@ -203,14 +202,3 @@ none-due size used opened closed rotation full images no_image no_next same off 
 pub nothing-due : (size used : ℕ) (opened closed : State) (rotation : Rotation) (full : Bool) → closed ≡ opened → (NeedsRotation used rotation.limit full → ⊥)
     → AreDue size opened closed rotation used full (record { image = None; next = None })
 nothing-due size used opened closed rotation full same off = none-due size used opened closed rotation full (record { image = None; next = None }) refl refl same off
-
--- what is due at a closed region is due at its contents
-pub due-at :
-    (closed : FrozenSeen) (size : ℕ) (objects : List Object) (actions : List Pair) (opened : State) (rotation : Rotation) (full : Bool) (images : Images) → IsClosedAt size objects actions closed
-    → IsImageDue closed.tables.size opened (primary closed.tables) (length closed.words) images.image
-    → IsNextDue rotation closed.tables.size (primary closed.tables) (length closed.words) full images.next
-    → AreDue size opened (contents_state objects actions) rotation (words_used objects actions) full images
-due-at closed size objects actions opened rotation full images at image next =
-    subst (λ (n : ℕ). AreDue n opened (contents_state objects actions) rotation (words_used objects actions) full images) at.size_is
-    (subst (λ (s : State). AreDue closed.tables.size opened s rotation (words_used objects actions) full images) at.state
-    (subst (λ (n : ℕ). AreDue closed.tables.size opened (primary closed.tables) rotation n full images) at.used (record { image = image; next = next })))

@@ -334,7 +334,7 @@ module _ {U : Type 0} (state : U → State) (up : State) (t : Tables) (p : Plain
         let is-lawful = lawful-end up p.start (port_view state p) (port_view state q) opened.lawful starts on.upstream on.from lawful in
         let follow = follow-shown up (port_view state q) sessions h.calls on.upstream h.follow in
         let answers : (n : ℕ) (session : Session) (own : SessionReplies) → slice_get sessions n ≡ Some session → slice_get replies n ≡ Some own
-            → IsAnswered (shown up q.start q.seen) h.calls n (history_lines session.lines) own.replies =
+        → IsAnswered (shown up q.start q.seen) h.calls n (history_lines session.lines) own.replies =
         λ n session own at its. answered-shown up (port_view state q) h.calls n (history_lines session.lines) own.replies on.upstream (h.each n session own at its) in (
           on.from,
           record {

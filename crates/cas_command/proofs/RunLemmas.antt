@@ -1,6 +1,6 @@
 -- Which answers come of what, and what words that were read ask for.
-use Rattle.std.proofs.Common.{IfOk, IfErr, Ok, get_or, ◌≡◌, ℕ, ◌<◌, ◌≤◌, inl, inr, List, [], ◌∷◌, length, Bool, true, false, cond, Some, None, refl, ap, sym, subst, ◌∙◌, Err, arith}
-use Rattle.std.specs.Prelude.{String, codes, unwrap_or}
+use Rattle.std.proofs.Common.{IfOk, IfErr, Ok, get_or, ◌≡◌, ℕ, ◌<◌, inl, inr, List, [], ◌∷◌, length, Bool, true, false, cond, Some, None, refl, ap, sym, subst, Err, arith}
+use Rattle.std.specs.Prelude.{String}
 use Rattle.std.specs.String.{string_bytes}
 use Rattle.std.specs.declared.alloc.Global.{Global}
 use Rattle.std.specs.declared.option.Option.{Option}
@@ -31,8 +31,6 @@ use Rattle.command_line.specs.declared.command.Request.{Request}
 use Rattle.command_line.specs.declared.command.Task.{Task}
 use Rattle.command_line.specs.declared.command.Task.TheVariants.{Once, Batch, Workload, Validate, Prune}
 use Rattle.command_line.specs.declared.command.Verb.{Verb}
-use Rattle.command_line.specs.declared.command.Verb.TheVariants as verb
-use Rattle.command_line.specs.declared.command.Command.TheVariants as command
 use Rattle.cas_command.specs.declared.seen_run.Front.{Front}
 use Rattle.cas_command.specs.declared.output.Output.{Output}
 use Rattle.cas_command.specs.declared.output.Output.TheVariants.{Text, Denied}
@@ -45,9 +43,9 @@ use Rattle.cas_command.specs.Opening.{OpenCause, OpeningStops}
 use Rattle.cas_command.specs.Output.{Reports, refusal_of}
 use Rattle.cas_command.specs.Pruning.{EnterCause, PruneCause}
 use Rattle.cas_command.specs.Rotation.{IsSizeFor}
-use Rattle.cas_command.specs.Run.{Ask, Because, Ends, Outside, Prepares, Refuses, RunPrepares, RunRefuses, IsPut, PutStops, SavingStops, UpkeepPrepares, UpkeepRefuses, WordsRefused, World, save_answer}
-use Rattle.command_line.specs.Words.{BeginWith, IsGiven, IsNamedBy, dir_of, is_word, task_of, verb_of}
-use Rattle.cas_command.specs.Work.{IsTaskWithin, IsWork, Source, TaskStops}
+use Rattle.cas_command.specs.Run.{Ask, Because, Ends, Outside, Prepares, Refuses, RunPrepares, RunRefuses, PutStops, SavingStops, UpkeepPrepares, UpkeepRefuses, WordsRefused, World, save_answer}
+use Rattle.command_line.specs.Words.{BeginWith, IsGiven, dir_of}
+use Rattle.cas_command.specs.Work.{IsWork, Source, TaskStops}
 
 -- ---- answers of a reply
 
@@ -323,72 +321,11 @@ denied words before after front given wrote h = as-denied words before after fro
 
 -- ---- what the words ask for
 
--- a workload has at most 10,000 rounds
-abbrev pub IsVerbWithin : Verb → Type 0
-IsVerbWithin (verb.Workload rounds) = rounds ≤ 10000
-IsVerbWithin other = Unit {0}
-
-chosen : (test : Bool) (first : Verb) (others : Option Verb) (made : Verb) → IsVerbWithin first → (others ≡ Some made → IsVerbWithin made) → cond test (Some first) others ≡ Some made → IsVerbWithin made
-chosen true first others made within later is = let same : first ≡ made = cc is in subst IsVerbWithin same within
-chosen false first others made within later is = later is
-
-verb-within : (word : String Global) (made : Verb) → verb_of word ≡ Some made → IsVerbWithin made
-verb-within word made is =
-    chosen (is_word word (codes "--make-blob")) verb.MakeBlob _ made tt
-    (chosen (is_word word (codes "--make-node")) verb.MakeNode _ made tt
-    (chosen (is_word word (codes "--cat-node-data")) verb.CatNodeData _ made tt
-    (chosen (is_word word (codes "--ls-node-refs")) verb.LsNodeRefs _ made tt
-    (chosen (is_word word (codes "--put-cache-key")) verb.PutCacheKey _ made tt
-    (chosen (is_word word (codes "--get-cache-result")) verb.GetCacheResult _ made tt
-    (chosen (is_word word (codes "--batch")) verb.Batch _ made tt
-    (chosen (is_word word (codes "--validate")) verb.Validate _ made tt
-    (chosen (is_word word (codes "--prune")) verb.Prune None made tt (λ none. cc none))))))))) is
-
-named-within : (test : Bool) (word : String Global) (words : List (String Global)) (made : Verb) (rest : List (String Global)) → IsNamedBy test word words made rest → IsVerbWithin made
-named-within true word words made rest h = subst IsVerbWithin (sym h.is) h.is_number.high
-named-within false word words made rest h = verb-within word made h.0
-
-pub begin-within : (words : List (String Global)) (made : Verb) (rest : List (String Global)) → BeginWith words made rest → IsVerbWithin made
-begin-within [] made rest h = absurd h
-begin-within (cas ∷ []) made rest h = absurd h
-begin-within (cas ∷ dir ∷ []) made rest h = absurd h.1
-begin-within (cas ∷ dir ∷ word ∷ words) made rest h = named-within (is_word word (codes "--workload")) word words made rest h.1
-
 -- the words name a folder
 pub has-dir : (words : List (String Global)) (made : Verb) (rest : List (String Global)) → BeginWith words made rest → 1 < length words
 has-dir [] made rest h = absurd h
 has-dir (cas ∷ []) made rest h = absurd h
 has-dir (cas ∷ dir ∷ words) made rest h = omega arith
-
-task-of : (own task : Task) → IsTaskWithin own → Some own ≡ Some task → IsTaskWithin task
-task-of own task within is = let same : own ≡ task = cc is in subst IsTaskWithin same within
-
--- a task with a script is within the limits
-pub task-within : (made : Verb) (digests : List Digest) (task : Task) → IsVerbWithin made → length digests ≤ 65535 → task_of made digests ≡ Some task → (task ≡ Validate → ⊥) → (task ≡ Prune → ⊥) → IsTaskWithin task
-task-within verb.MakeBlob [] task within few is not other = task-of (Once (command.Make [])) task (omega arith) is
-task-within verb.MakeNode refs task within few is not other = task-of (Once (command.Make refs)) task few is
-task-within verb.CatNodeData (digest ∷ []) task within few is not other = task-of (Once (command.CatNodeData digest)) task tt is
-task-within verb.LsNodeRefs (digest ∷ []) task within few is not other = task-of (Once (command.LsNodeRefs digest)) task tt is
-task-within verb.PutCacheKey (key ∷ value ∷ []) task within few is not other = task-of (Once (command.PutCacheKey key value)) task tt is
-task-within verb.GetCacheResult (key ∷ []) task within few is not other = task-of (Once (command.GetCacheResult key)) task tt is
-task-within verb.Batch [] task within few is not other = task-of Batch task tt is
-task-within (verb.Workload rounds) [] task within few is not other = task-of (Workload rounds) task within is
-task-within verb.Validate [] task within few is not other = let same : task ≡ Validate = cc is in absurd (not same)
-task-within verb.Prune [] task within few is not other = let same : task ≡ Prune = cc is in absurd (other same)
-task-within verb.MakeBlob (a ∷ more) task within few is not other = cc is
-task-within verb.CatNodeData [] task within few is not other = cc is
-task-within verb.CatNodeData (a ∷ b ∷ more) task within few is not other = cc is
-task-within verb.LsNodeRefs [] task within few is not other = cc is
-task-within verb.LsNodeRefs (a ∷ b ∷ more) task within few is not other = cc is
-task-within verb.PutCacheKey [] task within few is not other = cc is
-task-within verb.PutCacheKey (a ∷ []) task within few is not other = cc is
-task-within verb.PutCacheKey (a ∷ b ∷ c ∷ more) task within few is not other = cc is
-task-within verb.GetCacheResult [] task within few is not other = cc is
-task-within verb.GetCacheResult (a ∷ b ∷ more) task within few is not other = cc is
-task-within verb.Batch (a ∷ more) task within few is not other = cc is
-task-within (verb.Workload rounds) (a ∷ more) task within few is not other = cc is
-task-within verb.Validate (a ∷ more) task within few is not other = cc is
-task-within verb.Prune (a ∷ more) task within few is not other = cc is
 
 -- where one reply is reported, the work's script is that of one call
 pub one-call : (task : Task) (before after : Source) (work : Work) → IsWork task before after work → IsOneCall work
@@ -414,11 +351,6 @@ put-stops number due image bytes old new result error given is same saves once f
   is = answer;
 }
 
--- the lock stays
-pub put-locked : (number : ℕ) (due : Option (Vec ℕ Global)) (old new : FolderView) → IsPut number due old new → old.locked ≡ true → new.locked ≡ true
-put-locked number None old new put locked = ap (λ (v : FolderView). v.locked) put ∙ locked
-put-locked number (Some image) old new put locked = ap (λ (v : FolderView). v.locked) put.saves.is ∙ locked
-
 -- the size that is given lies within its limits, and so does that of a first generation
 pub size-within : (values : List (String Global)) (size : Option ℕ) → IsGiven 4096 67108864 values size → IsSizeFor size
 size-within [] None h = tt
@@ -426,10 +358,6 @@ size-within [] (Some number) h = cc h
 size-within (value ∷ []) None h = absurd h
 size-within (value ∷ []) (Some number) h = (h.low, h.high)
 size-within (value ∷ other ∷ values) size h = absurd h
-
-pub first-within : (size : Option ℕ) → IsSizeFor size → (4096 ≤ unwrap_or size 4194304) × (unwrap_or size 4194304 ≤ 67108864)
-first-within None h = (omega arith, omega arith)
-first-within (Some number) h = h
 
 -- ---- the whole run
 

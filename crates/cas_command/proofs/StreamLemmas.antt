@@ -2,7 +2,7 @@
 use Rattle.std.proofs.Common.{◌≡◌, ℕ, ◌+◌, ◌-◌, ◌≤◌, OnErr, List, ◌++◌, length, take, drop, Some, None, Ok, Err, ap, sym, ◌∙◌, subst, append_assoc, arith}
 use Rattle.std.specs.declared.option.Option.{Option}
 use Rattle.std.specs.declared.result.Result.{Result}
-use Rattle.std.specs.Io.KnownBytes.{Appends, Keeps, Consumes}
+use Rattle.std.specs.Io.KnownBytes.{Appends, Keeps}
 use Rattle.std.proofs.Math.Seq.{take-add}
 use Rattle.std.proofs.lemmas.List.{take-append-drop}
 use Rattle.std.proofs.lemmas.Grind.{common_steps}
@@ -19,12 +19,6 @@ appends-keep None b c xs ab bc = tt
 appends-keep (Some a) None c xs ab bc = absurd ab
 appends-keep (Some a) (Some b) None xs ab bc = absurd bc
 appends-keep (Some a) (Some b) (Some c) xs ab bc = bc ∙ ab
-
-pub consumes-then : (a b c : Option (List ℕ)) (xs ys : List ℕ) → Consumes a b xs → Consumes b c ys → Consumes a c (xs ++ ys)
-consumes-then None b c xs ys ab bc = tt
-consumes-then (Some a) None c xs ys ab bc = absurd ab
-consumes-then (Some a) (Some b) None xs ys ab bc = absurd bc
-consumes-then (Some a) (Some b) (Some c) xs ys ab bc = ab ∙ ap (λ zs. xs ++ zs) bc ∙ sym (append_assoc xs ys c)
 
 pub part-written : (a b c : Option (List ℕ)) (bytes : List ℕ) (at : ℕ) → Appends a b (take at bytes) → Keeps b c → AppendsPart a c bytes
 part-written a b c bytes at ab bc = record {

@@ -9,6 +9,7 @@ use Rattle.std.specs.declared.vec.Vec.{Vec}
 use Rattle.std.specs.Io.KnownBytes.{Appends}
 use Rattle.cas_outside.specs.Causes.{Rose}
 use Rattle.cas_outside.specs.Folder.{FolderView}
+use Rattle.cas_outside.specs.Streams.{SinkView, SourceView}
 use Rattle.generations.specs.declared.opening.Opened.{Opened}
 use Rattle.generations.specs.declared.saving.SaveError.{SaveError}
 use Rattle.generations.specs.declared.saving.SaveError.TheVariants as save
@@ -49,6 +50,9 @@ pub record Outside : Type 0 where
 abbrev pub outside_with : Option (List ℕ) → ℕ → FolderView → Outside
 outside_with left faults folder = record { source = source_with left faults; folder = folder }
 
+abbrev pub outside_of : SourceView → FolderView → Outside
+outside_of source folder = outside_with source.left source.faults folder
+
 -- the sink: what was written, where it tells it, and its count of faults
 pub record Sink : Type 0 where
   pub held : Option (List ℕ)
@@ -61,6 +65,9 @@ pub record World : Type 0 where
 abbrev pub world_with : Option (List ℕ) → ℕ → FolderView → Option (List ℕ) → ℕ → World
 world_with left read_faults folder held write_faults =
     record { outside = outside_with left read_faults folder; sink = record { held = held; faults = write_faults } }
+
+abbrev pub world_of : SourceView → FolderView → SinkView → World
+world_of source folder sink = world_with source.left source.faults folder sink.held sink.faults
 
 -- ---- what the words ask for
 

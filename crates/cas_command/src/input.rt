@@ -44,9 +44,9 @@ impl From<AllocError> for Stop {
 /// All bytes of the source, where they are at most so many; it is read to its end, or to the first byte past the limit.
 pub fn read_all<S: Source>(alloc: Global, source: &mut S, most: usize) -> Result<Vec<u8>, Stop>
     requires { most < 2 ^ 32 }
-    ensures ok { IfOk result (λ bytes. HasReadAll most (S.left source.old) (S.left source.new) bytes.items) }
-    ensures err { IfErr result (StoppedBy most (S.left source.old) (S.left source.new) (S.faults source.old) (S.faults source.new)) }
-    ensures later { S.faults source.old ≤ S.faults source.new }
+    ensures ok { IfOk result (λ bytes. HasReadAll most (S.view source.old).left (S.view source.new).left bytes.items) }
+    ensures err { IfErr result (StoppedBy most (S.view source.old).left (S.view source.new).left (S.view source.old).faults (S.view source.new).faults) }
+    ensures later { (S.view source.old).faults ≤ (S.view source.new).faults }
 {
     let mut block = zeros(alloc, BLOCK)?;
     read_blocks(alloc, source, most, &mut block)
@@ -61,9 +61,9 @@ fn read_blocks<S: Source>(
 ) -> Result<Vec<u8>, Stop>
     requires limit { most < 2 ^ 32 }
     requires some { 0 < length block.old }
-    ensures ok { IfOk result (λ bytes. HasReadAll most (S.left source.old) (S.left source.new) bytes.items) }
-    ensures err { IfErr result (StoppedBy most (S.left source.old) (S.left source.new) (S.faults source.old) (S.faults source.new)) }
-    ensures later { S.faults source.old ≤ S.faults source.new }
+    ensures ok { IfOk result (λ bytes. HasReadAll most (S.view source.old).left (S.view source.new).left bytes.items) }
+    ensures err { IfErr result (StoppedBy most (S.view source.old).left (S.view source.new).left (S.view source.old).faults (S.view source.new).faults) }
+    ensures later { (S.view source.old).faults ≤ (S.view source.new).faults }
 {
     let mut all = Vec::new(alloc);
     while all.len() <= most {

@@ -3,7 +3,6 @@
 
 mod answer;
 mod closing;
-mod seen_run;
 mod input;
 mod opening;
 mod output;
@@ -11,6 +10,7 @@ mod pruning;
 mod rotation;
 mod run;
 mod running;
+mod seen_run;
 mod streams;
 mod validate;
 mod work;

@@ -154,9 +154,9 @@ pub fn push_id(alloc: Global, text: &mut Vec<u8>, digest: Digest) -> Result<(), 
 
 /// Writes all the bytes. After a fault a part of them, from the front, was written.
 pub fn write_all<W: Sink>(sink: &mut W, bytes: &[u8]) -> Result<(), Failed>
-    ensures ok { OnOk result (Appends (W.held sink.old) (W.held sink.new) bytes.now) }
-    ensures part { OnErr result (AppendsPart (W.held sink.old) (W.held sink.new) bytes.now) }
-    ensures fault { OnErr result (Rose (W.faults sink.old) (W.faults sink.new)) }
+    ensures ok { OnOk result (Appends (W.view sink.old).held (W.view sink.new).held bytes.now) }
+    ensures part { OnErr result (AppendsPart (W.view sink.old).held (W.view sink.new).held bytes.now) }
+    ensures fault { OnErr result (Rose (W.view sink.old).faults (W.view sink.new).faults) }
 {
     let mut at = 0;
     while at < bytes.len() {

@@ -9,16 +9,16 @@ ghost use Rattle.cas_command.specs.Headline.{HasHeadline};
 ghost use Rattle.cas_command.specs.Made.{IsOneCall};
 ghost use Rattle.cas_command.specs.Room.{IsRoomy};
 ghost use Rattle.cas_command.specs.Rotation.{IsSizeFor};
-ghost use Rattle.cas_command.specs.Run.{Because, Ends, HasNext, IsPut, IsSaved, Prepares, PutStops, Refuses, RunPrepares, RunRefuses, SavingStops, ValidatePrepares, ValidateRefuses, WordsRefused, outside_with, save_answer, sink_with, world_with};
+ghost use Rattle.cas_command.specs.Run.{Because, Ends, HasNext, IsPut, IsSaved, Prepares, PutStops, Refuses, RunPrepares, RunRefuses, SavingStops, ValidatePrepares, ValidateRefuses, WordsRefused, outside_of, save_answer, sink_with, world_of};
 
 use crate::answer::{Answer, Large, Outcome};
 use crate::closing::Images;
-use crate::seen_run::Front;
 use crate::opening::open;
 use crate::output::{Output, write_all};
 use crate::pruning::prune_text;
 use crate::rotation::Rotation;
 use crate::running::run_work;
+use crate::seen_run::Front;
 use crate::validate::valid_text;
 use crate::work::{Work, work_of};
 use cas_outside::{Folder, Gate, Sink, Source};
@@ -40,11 +40,11 @@ pub fn cas_run<R: AllocGlobal, F: Folder, S: Source, W: Sink, G: Gate>(
     requires { MayEnter (F.view folder.old) }
     ensures status { result.status ≡ status_of result.answer }
     ensures because { Because words.now
-        (world_with (S.left source.old) (S.faults source.old) (F.view folder.old) (W.held sink.old) (W.faults sink.old))
-        (world_with (S.left source.new) (S.faults source.new) (F.view folder.new) (W.held sink.new) (W.faults sink.new)) result.front result.answer }
+        (world_of (S.view source.old) (F.view folder.old) (W.view sink.old))
+        (world_of (S.view source.new) (F.view folder.new) (W.view sink.new)) result.front result.answer }
     ensures complete { IsCompleteRun words.now
-        (world_with (S.left source.old) (S.faults source.old) (F.view folder.old) (W.held sink.old) (W.faults sink.old))
-        (world_with (S.left source.new) (S.faults source.new) (F.view folder.new) (W.held sink.new) (W.faults sink.new)) result.answer }
+        (world_of (S.view source.old) (F.view folder.old) (W.view sink.old))
+        (world_of (S.view source.new) (F.view folder.new) (W.view sink.new)) result.answer }
     ensures roomy { IsRoomy result.front result.answer }
     ensures history { HasHeadline (F.view folder.old).files (F.view folder.new).files result.front result.answer }
 {
@@ -59,7 +59,7 @@ pub fn cas_run<R: AllocGlobal, F: Folder, S: Source, W: Sink, G: Gate>(
 
 // Writes the text that was prepared, where there is one, and answers how the run ended.
 fn finish<W: Sink>(sink: &mut W, prepared: Result<Output, Answer>) -> Answer
-    ensures { Ends prepared (sink_with (W.held sink.old) (W.faults sink.old)) (sink_with (W.held sink.new) (W.faults sink.new)) result }
+    ensures { Ends prepared (sink_with (W.view sink.old).held (W.view sink.old).faults) (sink_with (W.view sink.new).held (W.view sink.new).faults) result }
 {
     match prepared {
         Err(answer) | Ok(Output::Denied(answer)) => answer,
@@ -79,8 +79,8 @@ fn prepare<F: Folder, S: Source, G: Gate>(
     gate: &G,
 ) -> (Front, Result<Output, Answer>)
     requires { MayEnter (F.view folder.old) }
-    ensures ok { IfOk result.1 (λ output. Prepares words.now (outside_with (S.left source.old) (S.faults source.old) (F.view folder.old)) (outside_with (S.left source.new) (S.faults source.new) (F.view folder.new)) result.0 output) }
-    ensures err { IfErr result.1 (λ answer. Refuses words.now (outside_with (S.left source.old) (S.faults source.old) (F.view folder.old)) (outside_with (S.left source.new) (S.faults source.new) (F.view folder.new)) result.0 answer) }
+    ensures ok { IfOk result.1 (λ output. Prepares words.now (outside_of (S.view source.old) (F.view folder.old)) (outside_of (S.view source.new) (F.view folder.new)) result.0 output) }
+    ensures err { IfErr result.1 (λ answer. Refuses words.now (outside_of (S.view source.old) (F.view folder.old)) (outside_of (S.view source.new) (F.view folder.new)) result.0 answer) }
 {
     let request = match read_request(alloc, words) {
         Ok(request) => request,

@@ -12,9 +12,9 @@ ghost use Rattle.cas_command.specs.Made.{HasMade, HasRunTo, IsOneCall};
 ghost use Rattle.cas_command.specs.Rotation.{IsSizeWithin};
 
 use crate::closing::{Images, counts_of, images_due};
-use crate::seen_run::Front;
 use crate::output::{Output, output_of};
 use crate::rotation::{Rotation, full_seen};
+use crate::seen_run::Front;
 use crate::work::Work;
 use cas_model::{NoUpstream, Upstream};
 use cas_outside::Gate;

@@ -38,9 +38,9 @@ pub struct Work {
 /// The work that a task asks for, with what the source gives.
 pub fn work_of<S: Source>(alloc: Global, task: Task, source: &mut S) -> Result<Work, Answer>
     requires { IsTaskWithin task }
-    ensures work { IfOk result (λ work. IsWork task (source_with (S.left source.old) (S.faults source.old)) (source_with (S.left source.new) (S.faults source.new)) work) }
+    ensures work { IfOk result (λ work. IsWork task (source_with (S.view source.old).left (S.view source.old).faults) (source_with (S.view source.new).left (S.view source.new).faults) work) }
     ensures fits { IfOk result (λ work. FitsScript work.script) }
-    ensures stops { IfErr result (λ answer. TaskStops task (source_with (S.left source.old) (S.faults source.old)) (source_with (S.left source.new) (S.faults source.new)) answer) }
+    ensures stops { IfErr result (λ answer. TaskStops task (source_with (S.view source.old).left (S.view source.old).faults) (source_with (S.view source.new).left (S.view source.new).faults) answer) }
 {
     match task {
         Task::Once(command) => call_work(alloc, command, source),
@@ -59,9 +59,9 @@ pub fn work_of<S: Source>(alloc: Global, task: Task, source: &mut S) -> Result<W
 // The work of a command that makes one call.
 fn call_work<S: Source>(alloc: Global, command: Command, source: &mut S) -> Result<Work, Answer>
     requires { IsCommandWithin command }
-    ensures work { IfOk result (λ work. IsCallWork command (source_with (S.left source.old) (S.faults source.old)) (source_with (S.left source.new) (S.faults source.new)) work) }
+    ensures work { IfOk result (λ work. IsCallWork command (source_with (S.view source.old).left (S.view source.old).faults) (source_with (S.view source.new).left (S.view source.new).faults) work) }
     ensures fits { IfOk result (λ work. FitsScript work.script) }
-    ensures stops { IfErr result (λ answer. CommandStops command (source_with (S.left source.old) (S.faults source.old)) (source_with (S.left source.new) (S.faults source.new)) answer) }
+    ensures stops { IfErr result (λ answer. CommandStops command (source_with (S.view source.old).left (S.view source.old).faults) (source_with (S.view source.new).left (S.view source.new).faults) answer) }
 {
     let shows = command.shows();
     let data = match read_input(alloc, &command, source) {
@@ -76,8 +76,8 @@ fn call_work<S: Source>(alloc: Global, command: Command, source: &mut S) -> Resu
 
 // The data of a command: all that the source gives where the command makes an object, and else none.
 fn read_input<S: Source>(alloc: Global, command: &Command, source: &mut S) -> Result<Vec<u8>, Stop>
-    ensures ok { IfOk result (λ bytes. HasInput command.now (source_with (S.left source.old) (S.faults source.old)) (source_with (S.left source.new) (S.faults source.new)) bytes.items) }
-    ensures err { IfErr result (λ stop. InputStops command.now (source_with (S.left source.old) (S.faults source.old)) (source_with (S.left source.new) (S.faults source.new)) stop) }
+    ensures ok { IfOk result (λ bytes. HasInput command.now (source_with (S.view source.old).left (S.view source.old).faults) (source_with (S.view source.new).left (S.view source.new).faults) bytes.items) }
+    ensures err { IfErr result (λ stop. InputStops command.now (source_with (S.view source.old).left (S.view source.old).faults) (source_with (S.view source.new).left (S.view source.new).faults) stop) }
 {
     match command {
         Command::Make(_) => read_all(alloc, source, MOST_DATA),
@@ -87,9 +87,9 @@ fn read_input<S: Source>(alloc: Global, command: &Command, source: &mut S) -> Re
 
 // The script that the source gives.
 fn read_script<S: Source>(alloc: Global, source: &mut S) -> Result<Script, Answer>
-    ensures script { IfOk result (λ script. HasScript (source_with (S.left source.old) (S.faults source.old)) (source_with (S.left source.new) (S.faults source.new)) script) }
+    ensures script { IfOk result (λ script. HasScript (source_with (S.view source.old).left (S.view source.old).faults) (source_with (S.view source.new).left (S.view source.new).faults) script) }
     ensures fits { IfOk result FitsScript }
-    ensures stops { IfErr result (λ answer. ScriptStops (source_with (S.left source.old) (S.faults source.old)) (source_with (S.left source.new) (S.faults source.new)) answer) }
+    ensures stops { IfErr result (λ answer. ScriptStops (source_with (S.view source.old).left (S.view source.old).faults) (source_with (S.view source.new).left (S.view source.new).faults) answer) }
 {
     let text = match read_all(alloc, source, MOST_SCRIPT) {
         Ok(text) => text,

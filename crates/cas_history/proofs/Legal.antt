@@ -75,10 +75,6 @@ module _ (up : State) (s : Tables) (sound : IsSound s) where
   abbrev pub seen_state : State
   seen_state = over (primary s) up
 
-  is-none : (b : Option Object) → is_some b ≡ false → b ≡ None
-  is-none None h = refl
-  is-none (Some x) h = cc
-
   is-none-value : (b : Option Digest) → is_none b ≡ true → b ≡ None
   is-none-value None h = refl
   is-none-value (Some x) h = cc
@@ -287,10 +283,6 @@ module _ (up : State) (start : Tables) (calls : Who → Option Call) (seen : Lis
   look-facts refs i (Some x) act all may d is =
       let same : x ≡ d = cc in
       (all may.0, subst (λ (y : Digest). IsAbout now Objects y act) same may.1)
-
-  no-claim : (refs : List Digest) (i : ℕ) (found : Option Digest) (n : ℕ) → MayLookFor up start seen who refs i found (Claim n) → ⊥
-  no-claim refs i None n may = may
-  no-claim refs i (Some d) n may = may.2
 
   no-room : (refs : List Digest) (i : ℕ) (found : Option Digest) (n : ℕ) (moved : Bool) → MayLookFor up start seen who refs i found (Room n moved) → ⊥
   no-room refs i None n moved may = may

@@ -11,3 +11,4 @@ pub mod Reading
 pub mod OsDraft
 pub mod OsFiles
 pub mod OsFolder
+pub mod Streams

@@ -2,6 +2,7 @@
 //! each as a trait whose contract tells what it holds and counts its faults, with one in memory and one of the system.
 #![tactic(auto)]
 
+mod file_names;
 mod file_table;
 mod folder;
 mod folder_record;
@@ -9,7 +10,6 @@ mod gate;
 mod mem_folder;
 mod mem_sink;
 mod mem_source;
-mod file_names;
 mod no_folder;
 mod os_draft;
 mod os_files;
@@ -18,12 +18,12 @@ mod plan;
 mod sink;
 mod source;
 
+pub use file_names::{Bytes, Name};
 pub use folder::{Folder, FolderError};
 pub use gate::{Gate, NoGate};
 pub use mem_folder::MemFolder;
 pub use mem_sink::MemSink;
 pub use mem_source::MemSource;
-pub use file_names::{Bytes, Name};
 pub use no_folder::NoFolder;
 pub use os_folder::OsFolder;
 pub use sink::{Sink, WriteSink};

@@ -58,9 +58,7 @@ impl Sink for MemSink {
     ghost use Rattle.cas_outside.specs.Causes.{HasCause};
     ghost use Rattle.cas_outside.specs.MemSink.{sink_held, KeepsSinkPlan, WritesAsPlanned};
 
-    ghost held = { λ s. sink_held s };
-
-    ghost faults = { λ s. s.faults };
+    ghost view = { λ s. record { held = sink_held s; faults = s.faults } };
 
     fn write(&mut self, bytes: &[u8]) -> Result<usize, Failed>
         requires { 0 < length bytes.now }

@@ -39,9 +39,7 @@ impl Source for MemSource {
     ghost use Rattle.cas_outside.specs.Causes.{HasCause};
     ghost use Rattle.cas_outside.specs.MemSource.{source_left, GivesAll, ReadsAsPlanned};
 
-    ghost left = { λ s. source_left s };
-
-    ghost faults = { λ s. s.faults };
+    ghost view = { λ s. record { left = source_left s; faults = s.faults } };
 
     fn read(&mut self, into: &mut [u8]) -> Result<usize, Failed>
         ensures bound { ReadsAtMost result into.new }

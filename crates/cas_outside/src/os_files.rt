@@ -132,7 +132,7 @@ fn read_front<S: Source>(
 ) -> Result<Vec<u8>, FolderError>
     requires { 0 < length block.old }
     ensures most { IfOk result (λ bytes. length bytes.items ≤ limit) }
-    ensures front { IfOk result (λ bytes. ReadsFront limit (S.left source.old) bytes.items) }
+    ensures front { IfOk result (λ bytes. ReadsFront limit (S.view source.old).left bytes.items) }
 {
     let most = limit as usize;
     let mut front = Vec::new(alloc);

@@ -1,19 +1,17 @@
 // Where bytes go to.
-ghost use Rattle.std.specs.Prelude.{◌≡◌, ◌<◌, ◌≤◌, List, ℕ, length, IfOk, None};
-ghost use Rattle.std.specs.declared.option.Option.{Option};
+ghost use Rattle.std.specs.Prelude.{◌≡◌, ◌<◌, ◌≤◌, length, IfOk, None};
 ghost use Rattle.std.specs.Io.KnownBytes.{WriteAppends};
 ghost use Rattle.cas_outside.specs.Causes.{HasCause};
+ghost use Rattle.cas_outside.specs.Streams.{SinkView};
 
 use crate::Failed;
 use std::io::{ErrorKind, Write};
 
 /// A sink for bytes.
 pub trait Sink {
-    /// The bytes that were written, where the sink knows them.
-    ghost held: { Self → Option (List ℕ) };
-
-    /// How often it has failed. The count never falls, and stands at the last `u64`.
-    ghost faults: { Self → ℕ };
+    /// The bytes that were written, where the sink knows them, and how often it has failed. The count never falls, and
+    /// stands at the last `u64`.
+    ghost view: { Self → SinkView };
 
     /// Appends bytes. `Ok(n)`, n from 1 to their number, says that the first n were appended. `Failed` comes only where
     /// the count of faults rose in this call, and then nothing was appended.
@@ -21,8 +19,8 @@ pub trait Sink {
         requires { 0 < length bytes.now }
         ensures some { IfOk result (λ n. 0 < n) }
         ensures most { IfOk result (λ n. n ≤ length bytes.now) }
-        ensures bytes { WriteAppends (held self.old) (held self.new) result bytes.now }
-        ensures cause { HasCause (faults self.old) (faults self.new) result };
+        ensures bytes { WriteAppends (view self.old).held (view self.new).held result bytes.now }
+        ensures cause { HasCause (view self.old).faults (view self.new).faults result };
 }
 
 /// Any writer of std as a sink. It tells nothing of what was written, and tries an interrupted write again, 1,000
@@ -45,9 +43,7 @@ impl<W: Write> WriteSink<W> {
 }
 
 impl<W: Write> Sink for WriteSink<W> {
-    ghost held = { λ _. None };
-
-    ghost faults = { λ s. s.faults };
+    ghost view = { λ s. record { held = None; faults = s.faults } };
 
     fn write(&mut self, bytes: &[u8]) -> Result<usize, Failed>
         requires { 0 < length bytes.now }

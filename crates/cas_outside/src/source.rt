@@ -1,20 +1,18 @@
 // Where bytes come from.
-ghost use Rattle.std.specs.Prelude.{◌<◌, List, ℕ, length, None};
-ghost use Rattle.std.specs.declared.option.Option.{Option};
+ghost use Rattle.std.specs.Prelude.{◌<◌, length, None};
 ghost use Rattle.std.specs.Io.{ReadsAtMost};
 ghost use Rattle.std.specs.Io.KnownBytes.{ReadConsumes};
 ghost use Rattle.cas_outside.specs.Causes.{HasCause};
+ghost use Rattle.cas_outside.specs.Streams.{SourceView};
 
 use crate::Failed;
 use std::io::{ErrorKind, Read};
 
 /// A source of bytes.
 pub trait Source {
-    /// The bytes that are left, where the source knows them.
-    ghost left: { Self → Option (List ℕ) };
-
-    /// How often it has failed. The count never falls, and stands at the last `u64`.
-    ghost faults: { Self → ℕ };
+    /// The bytes that are left, where the source knows them, and how often it has failed. The count never falls, and
+    /// stands at the last `u64`.
+    ghost view: { Self → SourceView };
 
     /// Takes bytes from the front of what is left. `Ok(n)` gives the first n of them, at most as many as there is room
     /// for; `Ok(0)` comes exactly where nothing is left. `Failed` comes only where the count of faults rose in this
@@ -22,8 +20,8 @@ pub trait Source {
     fn read(&mut self, into: &mut [u8]) -> Result<usize, Failed>
         requires { 0 < length into.old }
         ensures bound { ReadsAtMost result into.new }
-        ensures bytes { ReadConsumes (left self.old) (left self.new) result into.new }
-        ensures cause { HasCause (faults self.old) (faults self.new) result };
+        ensures bytes { ReadConsumes (view self.old).left (view self.new).left result into.new }
+        ensures cause { HasCause (view self.old).faults (view self.new).faults result };
 }
 
 /// Any reader of std as a source. It tells nothing of what is left, and tries an interrupted read again, 1,000 times
@@ -46,9 +44,7 @@ impl<R: Read> ReadSource<R> {
 }
 
 impl<R: Read> Source for ReadSource<R> {
-    ghost left = { λ _. None };
-
-    ghost faults = { λ s. s.faults };
+    ghost view = { λ s. record { left = None; faults = s.faults } };
 
     fn read(&mut self, into: &mut [u8]) -> Result<usize, Failed>
         requires { 0 < length into.old }

@@ -37,8 +37,8 @@ pub trait CellPort {
         steps: &mut Steps<L>,
     ) -> Result<Option<Place>, AllocError>
         requires { Speaks (view self.old) note }
-        ensures ok { IfOk result (λ place. Looked note space digest.now (view self.old) (view self.new) place) }
-        ensures err { OnErr result (WantsMemory (view self.old) (view self.new)) }
+        ensures looked { IfOk result (λ place. Looked note space digest.now (view self.old) (view self.new) place) }
+        ensures memory { OnErr result (WantsMemory (view self.old) (view self.new)) }
         ensures lawful { IsLawful (view self.old) (view self.new) }
         ensures ticks { Ticks 67 steps.old steps.new };
 
@@ -55,8 +55,8 @@ pub trait CellPort {
         steps: &mut Steps<L>,
     ) -> Result<Bound, PortError>
         requires { Speaks (view self.old) note }
-        ensures ok { IfOk result (λ bound. BoundTo note space digest.now (view self.old) (view self.new) bound) }
-        ensures err { IfErr result (BindRefused note (view self.old) (view self.new)) }
+        ensures bound { IfOk result (λ bound. BoundTo note space digest.now (view self.old) (view self.new) bound) }
+        ensures stopped { IfErr result (BindRefused note (view self.old) (view self.new)) }
         ensures lawful { IsLawful (view self.old) (view self.new) }
         ensures ticks { MatchResult result (λ bound. Ticks (2 * (bound.level + 1)) steps.old steps.new) (λ _. Ticks 126 steps.old steps.new) };
 
@@ -64,8 +64,8 @@ pub trait CellPort {
     fn read(&mut self, note: Note, record_: Place) -> Result<u64, AllocError>
         requires speaks { Speaks (view self.old) note }
         requires bound { HasRecord (view self.old) record_ }
-        ensures ok { IfOk result (λ value. HasRead note record_ (view self.old) (view self.new) value) }
-        ensures err { OnErr result (WantsMemory (view self.old) (view self.new)) }
+        ensures value { IfOk result (λ value. HasRead note record_ (view self.old) (view self.new) value) }
+        ensures memory { OnErr result (WantsMemory (view self.old) (view self.new)) }
         ensures lawful { IsLawful (view self.old) (view self.new) };
 
     /// Claims a block of words, of which none is written. `Full` exactly where the block would pass the region's end from
@@ -74,8 +74,8 @@ pub trait CellPort {
         requires speaks { Speaks (view self.old) note }
         requires some { 0 < words }
         requires most { words ≤ 2162688 }
-        ensures ok { IfOk result (λ block. HasClaimed note words (view self.old) (view self.new) block) }
-        ensures err { IfErr result (ClaimRefused note words (view self.old) (view self.new)) }
+        ensures claimed { IfOk result (λ block. HasClaimed note words (view self.old) (view self.new) block) }
+        ensures stopped { IfErr result (ClaimRefused note words (view self.old) (view self.new)) }
         ensures lawful { IsLawful (view self.old) (view self.new) };
 
     /// Writes the word at an index of a block that this port claimed. It adds no event.
@@ -91,16 +91,16 @@ pub trait CellPort {
     fn fill(&mut self, note: Note, record_: Place, block: Block) -> Result<Filled, AllocError>
         requires speaks { Speaks (view self.old) note }
         requires whole { IsWholeFill note record_ (view self.old) block }
-        ensures ok { IfOk result (λ filled. HasFilled note record_ (view self.old) (view self.new) block filled) }
-        ensures err { OnErr result (Abandons (view self.old) (view self.new) block) }
+        ensures filled { IfOk result (λ filled. HasFilled note record_ (view self.old) (view self.new) block filled) }
+        ensures memory { OnErr result (Abandons (view self.old) (view self.new) block) }
         ensures lawful { IsLawful (view self.old) (view self.new) };
 
     /// Fills the cell of an action's record with the record of an object, where the cell is 0.
     fn fill_place(&mut self, note: Note, record_: Place, value: Place) -> Result<Filled, AllocError>
         requires speaks { Speaks (view self.old) note }
         requires lawful { IsPlaceFill record_ (view self.old) value }
-        ensures ok { IfOk result (λ filled. HasFilledPlace note record_ (view self.old) (view self.new) value filled) }
-        ensures err { OnErr result (WantsMemory (view self.old) (view self.new)) }
+        ensures filled { IfOk result (λ filled. HasFilledPlace note record_ (view self.old) (view self.new) value filled) }
+        ensures memory { OnErr result (WantsMemory (view self.old) (view self.new)) }
         ensures lawful { IsLawful (view self.old) (view self.new) };
 
     /// One of the four words of a bound record's digest, or a word of a content that was published. These words never

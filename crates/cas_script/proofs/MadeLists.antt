@@ -3,7 +3,6 @@ use Rattle.std.proofs.Common.{◌≡◌, ℕ, ◌+◌, List, [], ◌∷◌, ◌+
 use Rattle.std.specs.List.{range_with_len}
 use Rattle.std.proofs.lemmas.List.FromFn.{map-range_with_len_more}
 use Rattle.cas_model.specs.declared.digest.Digest.{Digest}
-use Rattle.cas_script.specs.declared.script.Line.{Line}
 use Rattle.cas_script.specs.declared.script.Line.TheVariants.{Store}
 use Rattle.cas_script.specs.Workload.{header_line, header_name}
 

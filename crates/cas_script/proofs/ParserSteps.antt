@@ -9,7 +9,7 @@ use Rattle.cas_script.specs.declared.script.Line.{Line}
 use Rattle.cas_script.specs.declared.script.Session.{Session}
 use Rattle.cas_script.specs.declared.verb.Verb.{Verb}
 use Rattle.cas_script.specs.declared.error.LineKind.{LineKind}
-use Rattle.cas_script.specs.declared.error.LineKind.TheVariants.{NoSession, TooManyLines, BadArguments, BadVerb}
+use Rattle.cas_script.specs.declared.error.LineKind.TheVariants.{NoSession, TooManyLines, BadArguments}
 use Rattle.cas_script.specs.declared.refusal.Refusal.{Refusal}
 use Rattle.cas_script.specs.declared.refusal.Refusal.TheVariants.{Kind, Memory}
 use Rattle.cas_script.specs.Text.{pieces, more_pieces, speaks, tokens_of}
@@ -17,7 +17,7 @@ use Rattle.cas_script.specs.Verbs.{session_word, verb_word, count_check}
 use Rattle.cas_script.specs.Arguments.{OnKind}
 use Rattle.cas_script.specs.Lines.{stored_by, AreNoArguments, IsLineOf}
 use Rattle.cas_script.specs.Grammar.{begins_session}
-use Rattle.cas_script.specs.FirstRefused.{last_lines, Then, session_check, bare_check, place_check, IsRefusedVerb, IsRefusedCall, Unknown, Opening, Speaking, IsRefusedLine}
+use Rattle.cas_script.specs.FirstRefused.{last_lines, Then, session_check, bare_check, place_check, IsRefusedVerb, IsRefusedCall, Opening, Speaking, IsRefusedLine}
 use Rattle.cas_script.specs.Parsing.{session_of, Says, Begins, Adds, Opens, Speaks, so_far}
 use Rattle.cas_script.proofs.LineForms.{pass, refused, err_not_ok, bare_line}
 use Rattle.cas_script.proofs.Sections.{part_of}
@@ -162,16 +162,6 @@ pub open_refused : (r : Result (Unit {0}) Refusal) (before : List Session) (line
 open_refused r before line first arguments speaks_ tokens word is =
     line_refused r before line first arguments (Then (session_check before) (Then (bare_check arguments) (λ _. ⊥))) speaks_ tokens
     (λ kind bad. Opening word bad) is
-
-pub word_refused : (before : List Session) (line first : List ℕ) (arguments : List (List ℕ)) → speaks line ≡ true
-    → tokens_of line ≡ first ∷ arguments → first ≢ session_word → ((verb : Verb) → first ≢ verb_word verb) → IsRefusedLine before line BadVerb
-word_refused before line first arguments speaks_ tokens other none = record {
-  said = speaks_;
-  first = first;
-  arguments = arguments;
-  tokens = tokens;
-  refused = Unknown other none refl;
-}
 
 -- refused by an argument, or for want of memory
 pub arguments_stopped : (error : Refusal) (ended : List Session) (has : Bool) (lines : List Line) (stored : List (Option Digest)) (verb : Verb)

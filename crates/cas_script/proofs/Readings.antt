@@ -122,10 +122,6 @@ bodies_pushed (body ∷ bodies) (head ∷ front) session are =
       is = rest.is;
     }
 
--- no line is no session
-pub reads_none : ReadsLines [] []
-reads_none = record { bodies = []; parts = refl; few = omega arith; are = tt }
-
 -- a line that says nothing
 silent : (texts : List (List ℕ)) (sessions : List Session) (text : List ℕ) → speaks text ≡ false → ReadsLines texts sessions
     → ReadsLines (texts ++ text ∷ []) sessions

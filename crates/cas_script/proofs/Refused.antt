@@ -9,7 +9,7 @@ use Rattle.cas_script.specs.declared.script.Session.{Session}
 use Rattle.cas_script.specs.declared.script.Script.{Script}
 use Rattle.cas_script.specs.declared.verb.Verb.{Verb}
 use Rattle.cas_script.specs.declared.error.LineKind.{LineKind}
-use Rattle.cas_script.specs.declared.error.LineKind.TheVariants.{TooManySessions, TooManyLines}
+use Rattle.cas_script.specs.declared.error.LineKind.TheVariants.{TooManyLines}
 use Rattle.cas_script.specs.declared.error.ScriptError.{ScriptError}
 use Rattle.cas_script.specs.declared.error.ScriptError.TheVariants as errors
 use Rattle.cas_script.specs.Text.{pieces, lines_of, without_empty_end, speaks, tokens_of}
@@ -53,9 +53,6 @@ few_lines lines same =
 
 pub sessions_few : (sessions : List Session) → length sessions < 64 → session_check sessions ≡ pass
 sessions_few sessions few = rw (lt-leb 64 (length sessions) few) refl
-
-pub sessions_many : (sessions : List Session) → 64 ≤ length sessions → session_check sessions ≡ refused TooManySessions
-sessions_many sessions many = rw (le-leb 64 (length sessions) many) refl
 
 -- what lets pass leaves the rest
 pub then_pass : (r : Result (Unit {0}) LineKind) (rest : LineKind → Type 0) (kind : LineKind) → r ≡ pass → Then r rest kind → rest kind

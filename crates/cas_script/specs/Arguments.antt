@@ -1,7 +1,6 @@
 -- What the arguments of a line stand for, and why one stands for nothing.
-use Rattle.std.specs.Prelude.{◌≡◌, ◌≢◌, ◌⊎◌, ℕ, ◌+◌, ◌-◌, ◌*◌, ◌<◌, ◌≤◌, List, [], ◌∷◌, ◌++◌, codes, length, slice_index, slice_get, nat_le, ◌&&◌, Bool, Some, Ok}
+use Rattle.std.specs.Prelude.{◌≡◌, ◌⊎◌, ℕ, ◌-◌, List, [], ◌∷◌, ◌++◌, codes, slice_get, Some, Ok}
 use Rattle.std.specs.declared.option.Option.{Option}
-use Rattle.std.specs.List.{AllPass}
 use Rattle.hex.specs.Hex.{decode_of}
 use Rattle.cas_model.specs.declared.digest.Digest.{Digest}
 use Rattle.cas_model.specs.Decimal.{IsNumberWithin}

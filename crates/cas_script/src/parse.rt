@@ -22,7 +22,7 @@ const MOST_BYTES: usize = 16_777_216;
 impl Script {
     /// The script that a text is. docs/SCRIPT.md has the language.
     pub fn parse(alloc: Global, text: &[u8]) -> Result<Script, ScriptError>
-        ensures ok { IfOk result (Reads text.now) }
+        ensures parsed { IfOk result (Reads text.now) }
         // No other script is the text.
         ensures only { IfOk result (λ script. (other : Script) → Reads text.now other → other ≡ script) }
         // It has at most 64 sessions of at most 65,536 lines, and its objects can be stored.

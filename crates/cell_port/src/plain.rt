@@ -94,7 +94,7 @@ impl<'u> PlainPort<'u, NoUpstream> {
         ensures bound { IfOk result (λ port. BindsExactly contents.now.objects.items contents.now.actions.items port.start) }
         ensures seen { IfOk result (λ port. port.seen ≡ []) }
         ensures opened { IfOk result (λ port. port.opened ≡ []) }
-        ensures err { IfErr result (Refuses size 520 (contents_claims contents.now.objects.items contents.now.actions.items)) }
+        ensures refused { IfErr result (Refuses size 520 (contents_claims contents.now.objects.items contents.now.actions.items)) }
     {
         let tables = store_contents(alloc, contents, size)?;
         Ok(PlainPort {
@@ -212,8 +212,8 @@ impl<'u, U: Upstream> CellPort for PlainPort<'u, U> {
         digest: &Digest,
         steps: &mut Steps<L>,
     ) -> Result<Bound, PortError>
-        ensures ok { IfOk result (λ bound. BoundTo note space digest.now (port_view U.state self.old) (port_view U.state self.new) bound) }
-        ensures err { IfErr result (BindRefused note (port_view U.state self.old) (port_view U.state self.new)) }
+        ensures bound { IfOk result (λ bound. BoundTo note space digest.now (port_view U.state self.old) (port_view U.state self.new) bound) }
+        ensures stopped { IfErr result (BindRefused note (port_view U.state self.old) (port_view U.state self.new)) }
         ensures lawful { IsLawful (port_view U.state self.old) (port_view U.state self.new) }
         ensures ticks { MatchResult result (λ bound. Ticks (2 * (bound.level + 1)) steps.old steps.new) (λ _. Ticks 126 steps.old steps.new) }
 
@@ -241,8 +241,8 @@ impl<'u, U: Upstream> CellPort for PlainPort<'u, U> {
 
     fn claim(&mut self, note: Note, words: u64) -> Result<Block, PortError>
         requires { 0 < words }
-        ensures ok { IfOk result (λ block. HasClaimed note words (port_view U.state self.old) (port_view U.state self.new) block) }
-        ensures err { IfErr result (ClaimRefused note words (port_view U.state self.old) (port_view U.state self.new)) }
+        ensures claimed { IfOk result (λ block. HasClaimed note words (port_view U.state self.old) (port_view U.state self.new) block) }
+        ensures stopped { IfErr result (ClaimRefused note words (port_view U.state self.old) (port_view U.state self.new)) }
         ensures lawful { IsLawful (port_view U.state self.old) (port_view U.state self.new) }
 
         // A refused claim leaves the counter as it is.

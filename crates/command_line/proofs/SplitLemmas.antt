@@ -1,6 +1,6 @@
 -- Words after a command, one after the other: options with their values, and operands.
 use Rattle.std.proofs.Common.{◌≡◌, ℕ, suc, ◌+◌, ◌-◌, ◌≤◌, List, [], ◌∷◌, Bool, true, false, not, ◌&&◌, Some, None, length, take, drop, get_or, refl, ap, sym, subst, ◌∙◌, arith}
-use Rattle.std.specs.Prelude.{String, IfNone, IfSome, unwrap_or}
+use Rattle.std.specs.Prelude.{String, IfNone}
 use Rattle.std.specs.String.{string_bytes}
 use Rattle.std.specs.declared.alloc.Global.{Global}
 use Rattle.std.specs.declared.option.Option.{Option}
@@ -9,7 +9,7 @@ use Rattle.command_line.specs.declared.command.Setting.{Setting}
 use Rattle.command_line.specs.declared.command.Setting.TheVariants.{Workers, Size, Limit}
 use Rattle.command_line.specs.declared.words.Given.{Given}
 use Rattle.command_line.proofs.WordLemmas.{first-rest}
-use Rattle.command_line.specs.Splitting.{IsValueOf, IsWith, given_for, given_options, no_settings, with_number}
+use Rattle.command_line.specs.Splitting.{IsValueOf, IsWith, given_for, no_settings, with_number}
 use Rattle.command_line.specs.Words.{HaveOptions, IsGiven, IsSet, begins_dash, is_split, operands_at, operands_of, setting_of, split_at, values_at, values_of}
 use Rattle.cas_model.specs.Decimal.{IsNumberWithin}
 
@@ -83,19 +83,6 @@ pub seen-bad : (least most : ℕ) (all left : List (String Global)) (value : Str
     → (given ≡ None → (n : ℕ) → ¬ IsNumberWithin least most (string_bytes value) n) → Seen least most all (value ∷ left) given → IsUnset least most all
 seen-bad least most all left value None bad seen = subst (IsUnset least most) (sym seen) (only-one least most value left (bad refl))
 seen-bad least most all left value (Some given) bad seen = subst (IsUnset least most) (sym seen.1) (two least most seen.0 value left)
-
-pub seen-all : (least most default : ℕ) (all : List (String Global)) (given : Option ℕ) → Seen least most all [] given → IsSet least most default all (unwrap_or given default)
-seen-all least most default all None seen = subst (λ (vs : List (String Global)). IsSet least most default vs default) (sym seen) refl
-seen-all least most default all (Some number) seen = subst (λ (vs : List (String Global)). IsSet least most default vs number) (sym seen.1) seen.2
-
-pub seen-given : (least most : ℕ) (all : List (String Global)) (given : Option ℕ) → Seen least most all [] given → IsGiven least most all given
-seen-given least most all None seen = subst (λ (vs : List (String Global)). IsGiven least most vs None) (sym seen) refl
-seen-given least most all (Some number) seen = subst (λ (vs : List (String Global)). IsGiven least most vs (Some number)) (sym seen.1) seen.2
-
--- a number that is set lies within its bounds
-pub seen-within : (least most : ℕ) (all left : List (String Global)) (given : Option ℕ) → Seen least most all left given → IfSome given (λ number. number ≤ most)
-seen-within least most all left None seen = tt
-seen-within least most all left (Some number) seen = seen.2.high
 
 -- ---- the words so far
 
@@ -176,17 +163,6 @@ option-unset words after value Workers count given bad so options have = (seen-b
 option-unset words after value Size count given bad so options have = (seen-bad 4096 67108864 _ _ value given.size bad so.size_is).1 options.size have.size
 option-unset words after value Limit count given bad so options have = (seen-bad 0 1099511627776 _ _ value given.limit bad so.limit_is).1 options.limit have.limit
 
-pub so-far-all : (words : List (String Global)) (count : ℕ) (given : Given) → SoFar words [] count given → HaveOptions words (given_options given)
-so-far-all words count given so = record {
-  split = so.split;
-  workers = seen-all 1 64 1 (values_of Workers words) given.workers so.workers_are;
-  size = seen-given 4096 67108864 (values_of Size words) given.size so.size_is;
-  limit = seen-given 0 1099511627776 (values_of Limit words) given.limit so.limit_is;
-}
-
-pub workers-within : (words rest : List (String Global)) (count : ℕ) (given : Given) → SoFar words rest count given → IfSome given.workers (λ workers. workers ≤ 64)
-workers-within words rest count given so = seen-within 1 64 _ _ given.workers so.workers_are
-
 -- ---- words that are refused
 
 no-value-split : (word : String Global) (own : Setting) → setting_of word ≡ Some own → is_split (word ∷ []) ≡ false
@@ -198,11 +174,6 @@ not-split words is options have = cc (is, have.split)
 pub no-value : (words : List (String Global)) (word : String Global) (own : Setting) (count : ℕ) (given : Given) → setting_of word ≡ Some own
     → SoFar words (word ∷ []) count given → (options : Options) → ¬ HaveOptions words options
 no-value words word own count given is so = not-split words (so.split ∙ no-value-split word own is)
-
-pub other-option : (words more : List (String Global)) (word : String Global) (count : ℕ) (given : Given) → setting_of word ≡ None → begins_dash (string_bytes word) ≡ true
-    → SoFar words (word ∷ more) count given → (options : Options) → ¬ HaveOptions words options
-other-option words more word count given none dash so =
-    not-split words (so.split ∙ split-word word more none ∙ ap (λ (b : Bool). not b && is_split more) dash)
 
 -- ---- the same over slices
 

@@ -13,13 +13,11 @@ use Rattle.command_line.specs.declared.refusal.WordsError.{WordsError}
 use Rattle.command_line.specs.declared.refusal.WordsError.TheVariants as refusal
 use Rattle.command_line.specs.declared.refusal.UsageKind.TheVariants as usage
 use Rattle.command_line.specs.declared.command.Options.{Options}
-use Rattle.command_line.specs.declared.command.Request.{Request}
-use Rattle.command_line.specs.declared.command.Task.TheVariants as task
 use Rattle.command_line.specs.declared.command.Verb.{Verb}
 use Rattle.command_line.specs.declared.command.Verb.TheVariants.{MakeBlob, MakeNode, CatNodeData, LsNodeRefs, PutCacheKey, GetCacheResult, Batch, Workload, Validate, Prune}
 use Rattle.command_line.specs.Refusals.{AreRefused, OperandsRefused}
 use Rattle.command_line.specs.Splitting.{IsNamed}
-use Rattle.command_line.specs.Words.{AreOperands, BeginWith, HaveOptions, IsBadOperand, IsCommand, IsFirstBad, IsNamedBy, IsOperand, NameNone, Names, Reads, is_key, is_word, operands_of, takes, task_of, verb_of}
+use Rattle.command_line.specs.Words.{AreOperands, IsBadOperand, IsCommand, IsFirstBad, IsNamedBy, IsOperand, Names, is_key, is_word, operands_of, takes, verb_of}
 
 -- ---- slices of words
 
@@ -30,34 +28,12 @@ first-rest {X} (y ∷ ys) x some is = ap (λ (z : X). z ∷ ys) (sym is) ∙ ap 
 
 -- ---- the command
 
--- what stands after the command is one
-named-one : (b : Bool) (word : String Global) (words : List (String Global)) (v w : Verb) (r s : List (String Global)) → IsNamedBy b word words v r → IsNamedBy b word words w s → r ≡ s
-named-one true word words v w r s one other = cc (one.first, other.first)
-named-one false word words v w r s one other = one.1 ∙ sym other.1
-
-command-one : (words : List (String Global)) (v w : Verb) (r s : List (String Global)) → IsCommand words v r → IsCommand words w s → r ≡ s
-command-one [] v w r s one other = absurd one
-command-one (word ∷ words) v w r s one other = named-one (is_word word (codes "--workload")) word words v w r s one other
-
-begin-one : (words : List (String Global)) (v w : Verb) (r s : List (String Global)) → BeginWith words v r → BeginWith words w s → r ≡ s
-begin-one [] v w r s one other = absurd one
-begin-one (cas ∷ []) v w r s one other = absurd one
-begin-one (cas ∷ dir ∷ words) v w r s one other = command-one words v w r s one.1 other.1
-
 pub command-word : (words : List (String Global)) (word : String Global) (verb : Verb) → 1 ≤ length words → word ≡ get_or words 0 word → is_word word (codes "--workload") ≡ false
     → verb_of word ≡ Some verb → IsCommand words verb (take (length words - 1) (drop 1 words))
 command-word words word verb some is other named =
     let rest : List (String Global) = take (length words - 1) (drop 1 words) in
     subst (λ (ws : List (String Global)). IsCommand ws verb rest) (sym (first-rest words word some is))
     (subst (λ (b : Bool). IsNamedBy b word rest verb rest) (sym other) (named, refl))
-
-pub begin-none : (words : List (String Global)) → ((verb : Verb) (rest : List (String Global)) → ¬ BeginWith words verb rest) → NameNone words
-begin-none words none = λ verb operands options names. none verb names.rest names.begin
-
-pub split-none : (words : List (String Global)) (verb : Verb) (rest : List (String Global)) → BeginWith words verb rest → ((options : Options) → ¬ HaveOptions rest options) → NameNone words
-split-none words verb rest begin none = λ other operands options names.
-    let same : names.rest ≡ rest = begin-one words other verb names.rest rest names.begin begin in
-    none options (subst (λ (r : List (String Global)). HaveOptions r options) same names.have)
 
 pub names-of : (words : List (String Global)) (verb : Verb) (rest : List (String Global)) (count : ℕ) (options : Options) → IsNamed words verb rest count options
     → Names words verb (operands_of rest) options
@@ -79,48 +55,6 @@ alone word rounds =
     (not-workload (is_word word (codes "--batch")) Batch _ rounds (λ e. cc e)
     (not-workload (is_word word (codes "--validate")) Validate _ rounds (λ e. cc e)
     (not-workload (is_word word (codes "--prune")) Prune None rounds (λ e. cc e) (λ e. cc e)))))))))
-
--- a workload has at most 10,000 rounds
-named-few : (b : Bool) (word : String Global) (words rest : List (String Global)) (rounds : ℕ) → IsNamedBy b word words (Workload rounds) rest → rounds ≤ 10000
-named-few true word words rest rounds named = let same : rounds ≡ named.rounds = cc named.is in let high = named.is_number.high in omega (arith, same, high)
-named-few false word words rest rounds named = absurd (alone word rounds named.0)
-
-begin-few : (words rest : List (String Global)) (rounds : ℕ) → BeginWith words (Workload rounds) rest → rounds ≤ 10000
-begin-few [] rest rounds begin = absurd begin
-begin-few (cas ∷ []) rest rounds begin = absurd begin
-begin-few (cas ∷ dir ∷ []) rest rounds begin = absurd begin.1
-begin-few (cas ∷ dir ∷ word ∷ words) rest rounds begin = named-few (is_word word (codes "--workload")) word words rest rounds begin.1
-
-workload-verb : (verb : Verb) (digests : List Digest) (rounds : ℕ) → task_of verb digests ≡ Some (task.Workload rounds) → verb ≡ Workload rounds
-workload-verb MakeBlob [] rounds is = cc is
-workload-verb MakeBlob (a ∷ more) rounds is = cc is
-workload-verb MakeNode refs rounds is = cc is
-workload-verb CatNodeData [] rounds is = cc is
-workload-verb CatNodeData (a ∷ []) rounds is = cc is
-workload-verb CatNodeData (a ∷ b ∷ more) rounds is = cc is
-workload-verb LsNodeRefs [] rounds is = cc is
-workload-verb LsNodeRefs (a ∷ []) rounds is = cc is
-workload-verb LsNodeRefs (a ∷ b ∷ more) rounds is = cc is
-workload-verb PutCacheKey [] rounds is = cc is
-workload-verb PutCacheKey (a ∷ []) rounds is = cc is
-workload-verb PutCacheKey (a ∷ b ∷ []) rounds is = cc is
-workload-verb PutCacheKey (a ∷ b ∷ c ∷ more) rounds is = cc is
-workload-verb GetCacheResult [] rounds is = cc is
-workload-verb GetCacheResult (a ∷ []) rounds is = cc is
-workload-verb GetCacheResult (a ∷ b ∷ more) rounds is = cc is
-workload-verb Batch [] rounds is = cc is
-workload-verb Batch (a ∷ more) rounds is = cc is
-workload-verb (Workload n) [] rounds is = cc is
-workload-verb (Workload n) (a ∷ more) rounds is = cc is
-workload-verb Validate [] rounds is = cc is
-workload-verb Validate (a ∷ more) rounds is = cc is
-workload-verb Prune [] rounds is = cc is
-workload-verb Prune (a ∷ more) rounds is = cc is
-
-pub rounds-few : (words : List (String Global)) (request : Request) (rounds : ℕ) → Reads words request → request.task ≡ task.Workload rounds → rounds ≤ 10000
-rounds-few words request rounds reads is =
-    let verb_is : reads.verb ≡ Workload rounds = workload-verb reads.verb reads.digests rounds (reads.is ∙ ap Some is) in
-    begin-few words reads.have.names.rest rounds (subst (λ (v : Verb). BeginWith words v reads.have.names.rest) verb_is reads.have.names.begin)
 
 -- ---- operands
 

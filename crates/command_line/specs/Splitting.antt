@@ -1,5 +1,5 @@
 -- Words that are taken apart: what the parts of a reading of words know.
-use Rattle.std.specs.Prelude.{◌≡◌, ℕ, List, [], ◌∷◌, Bool, false, Some, None, ◌&&◌, nat_le, length, unwrap_or, String}
+use Rattle.std.specs.Prelude.{◌≡◌, ℕ, List, Some, None, length, unwrap_or, String}
 use Rattle.std.specs.declared.alloc.Global.{Global}
 use Rattle.std.specs.declared.option.Option.{Option}
 use Rattle.command_line.specs.declared.command.Options.{Options}

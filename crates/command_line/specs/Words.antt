@@ -1,7 +1,7 @@
 -- The words of a command, those after the program's name: `--cas`, the folder's name, the command's word, and then its operands and
 -- options in any order.
 use Rattle.cas_model.specs.Decimal.{IsNumberWithin}
-use Rattle.std.specs.Prelude.{◌≡◌, ℕ, suc, ◌<◌, ◌≤◌, List, [], ◌∷◌, Bool, true, false, cond, ◌==◌, ◌&&◌, not, Some, None, take, slice_get, length, nat_eq, codes, decimal, unwrap_or, String}
+use Rattle.std.specs.Prelude.{◌≡◌, ℕ, suc, ◌<◌, ◌≤◌, List, [], ◌∷◌, Bool, true, false, cond, ◌==◌, ◌&&◌, not, Some, None, take, slice_get, length, nat_eq, codes, unwrap_or, String}
 use Rattle.std.specs.Cmp.Lexicographic.{pointwise}
 use Rattle.std.specs.String.{string_bytes}
 use Rattle.std.specs.declared.alloc.Global.{Global}

@@ -7,11 +7,11 @@ use Rattle.cas_model.specs.declared.digest.Digest.{Digest}
 use Rattle.cas_model.specs.State.{State}
 use Rattle.cas_history.specs.declared.event.Act.TheVariants.{Room}
 use Rattle.cas_history.specs.Conduct.{IsRoot}
-use Rattle.cas_history.specs.Cost.{AreOfTree, IsWithinCost, Lacks, Row, rows_cost}
+use Rattle.cas_history.specs.Cost.{AreOfTree, Lacks, Row, rows_cost}
 use Rattle.cas_port.specs.Calls.{event_of}
 use Rattle.cas_port.specs.View.{View, tables_before}
-use Rattle.graph_db.specs.Events.{Goes, Last, seen_state}
-use Rattle.fault_in.specs.FaultIn.{Costs, IsRefused}
+use Rattle.graph_db.specs.Events.{Goes, Last}
+use Rattle.fault_in.specs.FaultIn.{IsRefused}
 use Rattle.fault_in.specs.Tree.{AreMissing, HasRows, HasTree}
 use Rattle.cas_model.specs.Notes.{deep_note}
 use Rattle.fault_in.proofs.Costs.{lacks-row}
@@ -42,14 +42,6 @@ refused-last who root first old new at words size h call =
     }) h.at_is h.size_is
 
 -- ---- costs
-
-rows-of-tree : (up : State) (call : Call) (root : Digest) (s : State) (rows : List Row) → HasTree up call root → AreMissing up root s rows → AreOfTree up call rows
-rows-of-tree up call root s [] tree h = tt
-rows-of-tree up call root s (r ∷ rs) tree h = (tree r.digest r.object h.0, h.2, rows-of-tree up call root s rs tree h.3)
-
--- one tree is within the cost of its call
-pub within-one : (who : Who) (root : Digest) (call : Call) (old new : View) → HasTree old.upstream call root → (h : Costs who root old new) → IsWithinCost old.upstream call (rows_cost h.rows)
-within-one who root call old new tree h = record { rows = h.rows; tree = rows-of-tree old.upstream call root (seen_state old) h.rows tree h.missing; most = omega arith }
 
 lacks-both : (d : Digest) (ys xs : List Row) → Lacks d ys → Lacks d xs → Lacks d (ys ++ xs)
 lacks-both d [] xs one two = two

@@ -29,17 +29,6 @@ quiet-then who a b c ab bc = record {
   none = no-fill-append who bc.more ab.more bc.none ab.none;
 }
 
-pub fills-after : (start : Tables) (who : Who) (digest : Digest) (a b c : List Event) → IsQuiet who a b → FillsLast start who digest b c → FillsLast start who digest a c
-fills-after start who digest a b c quiet fills = record {
-  earlier = fills.earlier;
-  quiet = quiet-then who a b fills.earlier quiet fills.quiet;
-  cell = fills.cell;
-  value = fills.value;
-  words = fills.words;
-  is = fills.is;
-  at = fills.at;
-}
-
 module _ (up : State) (start : Tables) (who : Who) where
   -- ---- visits one after another
 

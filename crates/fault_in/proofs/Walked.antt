@@ -166,9 +166,6 @@ module _ (who : Who) (root : Digest) (t : Tables) (first v : View) (waiting : Li
   pub few-places : IsStorable (primary t) → length top.places.items ≤ 65535
   few-places storable = let few = storable.few_refs top.digest top.object h.newest.below.is in let less = h.newest.few in omega (arith, few, less)
 
-  pub short-data : IsStorable (primary t) → length top.object.data ≤ 16777215
-  short-data storable = storable.short top.digest top.object h.newest.below.is
-
   pub child-there : (child : Digest) → IsClosed (primary t) → slice_get top.object.refs (length top.places.items) ≡ Some child → has (primary t) child ≡ true
   child-there child closed at = member-has (primary t) child top.object.refs (closed.objects top.digest top.object h.newest.below.is) (get-member top.object.refs (length top.places.items) child at)
 

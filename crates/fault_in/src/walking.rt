@@ -64,8 +64,8 @@ pub fn fault_in<P: CellPort>(
     requires speaks { SpeaksFor (P.view port.old) who }
     requires upstream { (P.view port.old).upstream ≡ primary up.now.tables }
     ensures lacks { (result ≡ Ok false) ↔ (has (primary up.now.tables) digest.now ≡ false) }
-    ensures ok { IfOk result (HasFaultedIn who digest.now (P.view port.old) (P.view port.new)) }
-    ensures err { IfErr result (FaultInStops who digest.now (P.view port.old) (P.view port.new)) }
+    ensures brought { IfOk result (HasFaultedIn who digest.now (P.view port.old) (P.view port.new)) }
+    ensures stopped { IfErr result (FaultInStops who digest.now (P.view port.old) (P.view port.new)) }
     ensures lawful { IsLawfulOrSame (P.view port.old) (P.view port.new) }
     ensures order { IfOk result (IsVisited (primary up.now.tables) who digest.now (P.view port.old) (P.view port.new)) }
     ensures order_so_far { OnErr result (IsVisitedInPart (primary up.now.tables) who digest.now (P.view port.old) (P.view port.new)) }

@@ -5,9 +5,9 @@ use Rattle.std.proofs.lemmas.Map.Steps.{length-le_from_distinct_below}
 use Rattle.cas_model.specs.declared.place.Space.{Space}
 use Rattle.region_core.specs.Words.{root}
 use Rattle.region_core.proofs.Finding.{record_below}
-use Rattle.frozen_store.specs.Gathers.{IsIn, AreApart, GathersBelow, GathersSlot, HasTable, HasSlot}
+use Rattle.frozen_store.specs.Gathers.{IsIn, AreApart, GathersBelow, GathersSlot, HasTable}
 use Rattle.frozen_store.specs.Tallies.{Tallies, TalliesBelow, TalliesSlot, AreSoMany}
-use Rattle.frozen_store.proofs.Walking.{gathers_none, gathers_more, gathers_all, all_filled}
+use Rattle.frozen_store.proofs.Walking.{gathers_more, gathers_all, all_filled}
 
 not-there : (p : ℕ) (ps : List ℕ) → (IsIn p ps → ⊥) → AllByRecursion (λ q. (p == q) ≡ false) ps
 not-there p [] none = tt
@@ -40,21 +40,11 @@ below-words words table slots level n places x h =
     let most = few g.places (length words) g.below.apart (λ p m. let u = (g.below.only p m).under in omega (arith, record_below x.heap (length words) x.space u.digest u.cell p x.laid.shape u.here)) in
     omega (arith, ap length same, most, x.short)
 
-pub slot-words : (words : List ℕ) (table index level : ℕ) (places : List ℕ) → HasSlot words table index level → GathersSlot words table index [] places → length places ≤ 67108864
-slot-words words table index level places x h =
-    let g = h x.heap x.space x.indexes x.laid x.here x.within in
-    let same : places ≡ g.places = g.is in
-    let most = few g.places (length words) g.under.apart (λ p m. let u = g.under.only p m in omega (arith, record_below x.heap (length words) x.space u.digest u.cell p x.laid.shape u.here)) in
-    omega (arith, ap length same, most, x.short)
-
 -- what a slot lists alone, it lists behind other places
 behind : (words : List ℕ) (table index : ℕ) (before places : List ℕ) → GathersSlot words table index [] places → GathersSlot words table index before (before ++ places)
 behind words table index before places h heap space indexes laid here within =
     let g = h heap space indexes laid here within in
     record { places = g.places; is = ap (λ ps. before ++ ps) g.is; under = g.under }
-
-pub below-none : (words : List ℕ) (table slots : ℕ) → TalliesBelow words table slots 0 0
-below-none words table slots = record { places = []; gathers = gathers_none words table slots []; long = refl; few = omega arith }
 
 pub below-more : (words : List ℕ) (table slots level i count more : ℕ) → HasTable words table slots level → i < slots → TalliesBelow words table slots i count → TalliesSlot words table i more
     → TalliesBelow words table slots (i + 1) (count + more)

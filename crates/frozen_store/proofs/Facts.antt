@@ -324,9 +324,6 @@ module _ (words : List ℕ) (objects actions : ℕ) (x : IsFrozen words objects 
   pub cell_none : (s : Space) (d : Digest) → place_of (tables_in words).bound s d ≡ None → cell_under (tables_in words) s d ≡ 0
   cell_none s d h = ap (cell_at (tables_in words).filled) h
 
-  pub no_value : (k : Digest) → cell_under (tables_in words) Actions k ≡ 0 → fin.get (primary (tables_in words)).cache k ≡ None
-  no_value k h = get-value (tables_in words) k ∙ ap (value_in (tables_in words)) h
-
   -- the value of a key is the digest of the record in its cell
   value_record : (k : Digest) (p : Place) → place_of (tables_in words).bound Actions k ≡ Some p → get_or words (p.at + 4) 0 ≢ 0
       → (d : List ℕ) × (c : ℕ) × (heap_of words (get_or words (p.at + 4) 0) ≡ Record Objects d c)
@@ -447,9 +444,6 @@ module _ (seen : FrozenSeen) (y : Inside seen) where
   pub seen_cell : (s : Space) (d : Digest) (p : Place) → place_of seen.tables.bound s d ≡ Some p → cell_under seen.tables s d ≡ get_or seen.words (p.at + 4) 0
   seen_cell s d p = subst (λ (z : FrozenSeen). place_of z.tables.bound s d ≡ Some p → cell_under z.tables s d ≡ get_or z.words (p.at + 4) 0) y.is (cell_is y.words y.objects y.actions y.frozen s d p)
 
-  pub seen_none : (s : Space) (d : Digest) → place_of seen.tables.bound s d ≡ None → cell_under seen.tables s d ≡ 0
-  seen_none s d h = ap (cell_at seen.tables.filled) h
-
   pub value_within : (k : Digest) (p : Place) (cell : ℕ) → place_of seen.tables.bound Actions k ≡ Some p → cell ≡ get_or seen.words (p.at + 4) 0 → cell ≢ 0 → cell + 4 < length seen.words
   value_within k p cell h e some =
       subst (λ (z : FrozenSeen). place_of z.tables.bound Actions k ≡ Some p → cell ≡ get_or z.words (p.at + 4) 0 → cell + 4 < length z.words) y.is
@@ -494,9 +488,6 @@ value_none t k o none h = get-value t k ∙ ap (λ p. value_in t (cell_at t.fill
 
 pub value_empty : (t : Tables) (k : Digest) → cell_under t Actions k ≡ 0 → fin.get (primary t).cache k ≡ None
 value_empty t k h = get-value t k ∙ ap (value_in t) h
-
-pub none_from : {X : Type 0} (o : Option X) → o ≡ None → (p : Option X) → p ≡ o → p ≡ None
-none_from o e p h = h ∙ e
 
 -- ---- where a closed region comes from
 

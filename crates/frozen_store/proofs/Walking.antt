@@ -7,7 +7,7 @@ use Rattle.cas_model.specs.Trie.{path, index_of}
 use Rattle.region_core.specs.Heap.{Block, Record, Laid, fixed, memory_of}
 use Rattle.region_core.specs.Inserts.{IsUnder, Region}
 use Rattle.region_core.specs.Words.{root, width}
-use Rattle.region_core.proofs.Finding.{index_within, table_there, record_there, named_at, slot_below, record_below}
+use Rattle.region_core.proofs.Finding.{index_within, table_there, record_there, named_at, record_below}
 use Rattle.region_core.proofs.Tightness.{none_under, one_under}
 use Rattle.frozen_store.specs.Gathers.{IsIn, AreApart, IsFilledUnder, HasUnder, Gathers, GathersBelow, GathersSlot, HasTable, HasSlot, AreFilled}
 
@@ -32,13 +32,6 @@ apart_both (x ∷ xs) ys ax ay none = (
   λ m. elim (in_cases x xs ys m) [ inl a ↦ ax.0 a | inr b ↦ none x (inl refl) b ],
   apart_both xs ys ax.1 ay (λ p a b. none p (inr a) b),
 )
-
-pub gathers_none : (words : List ℕ) (table slots : ℕ) (before : List ℕ) → GathersBelow words table slots 0 before before
-gathers_none words table slots before heap space indexes laid here wide = record {
-  places = [];
-  is = sym (append-nil before);
-  below = record { only = λ p m. absurd m; has = λ p x. absurd (omega (arith, x.low)); apart = tt };
-}
 
 -- one slot more
 pub gathers_more : (words : List ℕ) (table slots i : ℕ) (before mid after : List ℕ) → i < slots → GathersBelow words table slots i before mid → GathersSlot words table i mid after → GathersBelow words table slots (i + 1) before after
@@ -153,12 +146,6 @@ slot_subtrie words table index t before after word all heap space indexes laid h
     all heap space (index ∷ indexes) laid (table_there heap (memory_of words) space indexes index table t laid.tries here within (sym word)) refl
 
 -- ---- what the walk asks
-
-pub slot_of_table : (words : List ℕ) (table slots index level : ℕ) → HasTable words table slots level → index < slots → HasSlot words table index level
-slot_of_table words table slots index level x h = record { heap = x.heap; space = x.space; indexes = x.indexes; laid = x.laid; here = x.here; within = omega (arith, x.wide); deep = x.deep; short = x.short }
-
-pub slot_inside : (words : List ℕ) (table index level : ℕ) → HasSlot words table index level → table + index < length words
-slot_inside words table index level x = slot_below x.heap (length words) x.space x.indexes table index x.laid.shape x.here x.within
 
 pub record_inside : (words : List ℕ) (table index level r : ℕ) → HasSlot words table index level → 4 * r + 1 ≡ get_or words (table + index) 0 → r + 4 < length words
 record_inside words table index level r x word =

@@ -152,6 +152,3 @@ module _ (names : List (List ℕ)) (name : List ℕ) (number : ℕ) (is : IsName
 
   pub name-stayed : number ≤ unwrap_or p 0 → (number < unwrap_or p 0 → number ≤ unwrap_or u 0) → AreTwoHighest (IsListed (names ++ name ∷ [])) p u
   name-stayed below low = stayed (IsListed names) (IsListed (names ++ name ∷ [])) number is.most (listed-before names name) (listed-last names name number is) cases p u h is.least below low
-
-pub nothing-highest : AreTwoHighest (IsListed []) None None
-nothing-highest = record { primary_is = λ n below h. nothing-listed n h; upstream_is = λ n below h. nothing-listed n h }

@@ -1,5 +1,5 @@
 -- Names of generations and their numbers.
-use Rattle.std.proofs.Common.{◌≡◌, ℕ, ◌+◌, ◌%◌, ◌^◌, ◌<◌, ◌≤◌, Bool, true, List, [], ◌∷◌, ◌++◌, length, drop, refl, ap, sym, ◌∙◌, subst, Ok, Err, Some, None, arith}
+use Rattle.std.proofs.Common.{◌≡◌, ℕ, ◌+◌, ◌%◌, ◌^◌, ◌<◌, ◌≤◌, Bool, true, List, [], ◌∷◌, ◌++◌, length, drop, refl, ap, sym, ◌∙◌, subst, Ok, Err, None, arith}
 use Rattle.std.proofs.lemmas.Bool.Decides.{nat_tests}
 use Rattle.std.specs.Prelude.{codes, decimal}
 use Rattle.std.specs.List.{list_all}
@@ -49,10 +49,6 @@ made (Err e) bytes n is text small = tt
 pub no-value : {T E : Type 0} (r : Result T E) (P : T → Type 0) (Q : E → Type 0) → MatchResult r P Q → result_ok r ≡ None → ((e : E) → Q e → ⊥) → ⊥
 no-value (Ok x) P Q h is never = cc (is)
 no-value (Err e) P Q h is never = never e h
-
-pub a-value : {T E : Type 0} (r : Result T E) (P : T → Type 0) (Q : E → Type 0) (x : T) → MatchResult r P Q → result_ok r ≡ Some x → P x
-a-value (Ok y) P Q x h is = (let same : y ≡ x = cc (is) in subst P same h)
-a-value (Err e) P Q x h is = cc (is)
 
 -- ---- the error that a `?` makes
 

@@ -5,7 +5,7 @@ use Rattle.std.proofs.lemmas.Bool.{cases_lt}
 use Rattle.std.proofs.lemmas.List.{length-take-le, take_all}
 use Rattle.cas_model.specs.Primary.{primary}
 use Rattle.cas_outside.specs.Causes.{Rose}
-use Rattle.cas_outside.specs.Folder.{Files, FolderView, Calm, HasName, ReadsFile}
+use Rattle.cas_outside.specs.Folder.{Files, FolderView, Calm, ReadsFile}
 use Rattle.frozen_store.specs.Seen.{FrozenSeen, IsSeen}
 use Rattle.image_file.specs.Image.{image_bytes, RefusesImage}
 use Rattle.image_file.specs.declared.error.ImageError.{ImageError}
@@ -15,7 +15,7 @@ use Rattle.generations.specs.Chain.{IsToldChain}
 use Rattle.generations.specs.GenerationNames.{generation_name}
 use Rattle.generations.specs.declared.opening.OpenError.{OpenError}
 use Rattle.generations.specs.declared.opening.OpenError.TheVariants.{Held, FolderFault, Damaged, Memory}
-use Rattle.generations.specs.Opened.{ChainFails, HasDamage, HasImage, IsRead, IsReadable, ReadFails, UpstreamFails, UpstreamIsThere, refusal_of}
+use Rattle.generations.specs.Opened.{ChainFails, HasDamage, HasImage, IsRead, IsReadable, ReadFails, UpstreamFails, refusal_of}
 
 -- ---- the first bytes of a file
 
@@ -81,9 +81,6 @@ refused-fails old new number bytes error read h = (refl, has-damage old.files nu
 pub calm-files : (old new : FolderView) → Calm old new → new.files ≡ old.files
 calm-files old new calm = ap (λ v. v.files) calm.is
 
-pub calm-locked : (old new : FolderView) → Calm old new → new.locked ≡ old.locked
-calm-locked old new calm = ap (λ v. v.locked) calm.is
-
 pub calm-then : (old mid new : FolderView) → Calm old mid → Calm mid new → Calm old new
 calm-then old mid new first last =
     let a = first.later in
@@ -95,18 +92,6 @@ calm-then old mid new first last =
 
 pub rose-after : (old mid new : ℕ) → old ≤ mid → Rose mid new → Rose old new
 rose-after old mid new le rose = omega (arith, le, rose)
-
--- the primary of a chain is there
-pub has-primary : (files : Option Files) (number : ℕ) (upstream : Option ℕ) → IsToldChain files (Some number) upstream → HasName files (generation_name number)
-has-primary None number upstream h = tt
-has-primary (Some files) number upstream h = h.primary_is.0.there
-
--- so is the upstream, where there is one
-pub has-upstream : (files : Option Files) (primary upstream : Option ℕ) → IsToldChain files primary upstream → UpstreamIsThere files upstream
-has-upstream None primary None h = tt
-has-upstream None primary (Some number) h = tt
-has-upstream (Some files) primary None h = tt
-has-upstream (Some files) primary (Some number) h = h.upstream_is.0.there
 
 -- ---- the upstream
 

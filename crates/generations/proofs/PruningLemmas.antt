@@ -22,7 +22,7 @@ use Rattle.cas_model.specs.State.{State}
 use Rattle.generations.specs.Chain.{AreTwoHighest, HasGeneration, IsChain, IsHighestBelow, IsListed}
 use Rattle.generations.specs.FolderState.{HasChain, IsStateOf}
 use Rattle.generations.specs.GenerationNames.{IsNameOf, generation_name}
-use Rattle.generations.specs.Pruning.{AreLowestUnused, AreUnused, IsUnused, Loses, LosesAll, LosesSome, ToldLosesAll, ToldLosesSome, is_name_among}
+use Rattle.generations.specs.Pruning.{AreLowestUnused, AreUnused, IsUnused, Loses, LosesAll, LosesSome, ToldLosesSome, is_name_among}
 use Rattle.generations.specs.Removing.{AreBelowUpstream, AreOnce, AreToldUnused, ToldLoses}
 use Rattle.generations.proofs.ChainLemmas.{counted, file-listed, listed-before, listed-cases, listed-file, listed-last, nothing-listed, two-same}
 use Rattle.generations.proofs.FileLemmas.{get-removed}
@@ -199,10 +199,6 @@ told-more (Some old) None new numbers number loses removes = absurd loses
 told-more (Some old) (Some mid) new numbers number loses removes =
     subst (λ (fs : Option Files). ToldLoses (Some old) fs (numbers ++ number ∷ [])) (sym removes) (removed-more numbers number old mid loses)
 
-pub told-none : (old new : Option Files) → new ≡ old → ToldLoses old new []
-told-none None new same = same
-told-none (Some old) new same = subst (λ (fs : Option Files). ToldLoses (Some old) fs []) (sym same) (λ name. refl)
-
 -- ---- the first of the numbers
 
 rising-below : (numbers : List ℕ) (i j : ℕ) → IsStrictlyIncreasing numbers → i < j → j < length numbers → get_or numbers i 0 < get_or numbers j 0
@@ -260,23 +256,10 @@ lowest-first files numbers k unused = record {
 
 -- ---- what is left
 
-pub all-lost : (old new : Option Files) (numbers : List ℕ) → AreToldUnused old numbers → ToldLoses old new numbers → ToldLosesAll old new (length numbers)
-all-lost None new numbers unused loses = loses
-all-lost (Some old) None numbers unused loses = loses
-all-lost (Some old) (Some new) numbers unused loses = record { numbers = numbers; unused = unused; loses = loses; counted = refl }
-
 pub some-lost : (old new : Option Files) (numbers : List ℕ) (k : ℕ) → AreToldUnused old numbers → ToldLoses old new (take k numbers) → ToldLosesSome old new
 some-lost None new numbers k unused loses = loses
 some-lost (Some old) None numbers k unused loses = loses
 some-lost (Some old) (Some new) numbers k unused loses = record { numbers = take k numbers; unused = lowest-first old numbers k unused; loses = loses }
-
-pub none-lost : (old new : Option Files) → new ≡ old → ToldLosesSome old new
-none-lost None new same = same
-none-lost (Some old) new same = subst (λ (fs : Option Files). ToldLosesSome (Some old) fs) (sym same) (record {
-  numbers = [];
-  unused = record { only = λ n has. absurd (none-there n has); lowest = λ n m has is below. absurd (none-there m has) };
-  loses = λ name. refl;
-})
 
 -- ---- the states
 

@@ -1,23 +1,17 @@
 -- Views of a folder from which generations are removed in turn.
-use Rattle.std.proofs.Common.{◌≡◌, ℕ, ◌+◌, ◌<◌, ◌≤◌, List, [], ◌∷◌, length, take, get_or, inl, inr, Ok, Err, refl, ap, sym, ◌∙◌, subst, arith}
+use Rattle.std.proofs.Common.{◌≡◌, ℕ, ◌+◌, ◌<◌, List, length, take, get_or, inl, inr, Ok, Err, ap, sym, ◌∙◌, subst, arith}
 use Rattle.std.specs.declared.option.Option.{Option}
-use Rattle.std.proofs.lemmas.List.{take_more, take_all}
+use Rattle.std.proofs.lemmas.List.{take_more}
 use Rattle.cas_outside.specs.Causes.{Rose}
-use Rattle.cas_outside.specs.Folder.{Calm, Files, FolderView, Removed}
-use Rattle.cas_outside.specs.declared.folder.FolderError.{FolderError}
-use Rattle.cas_outside.specs.declared.folder.FolderError.TheVariants as folder
+use Rattle.cas_outside.specs.Folder.{Calm, Files, FolderView}
 use Rattle.generations.specs.declared.saving.SaveError.{SaveError}
 use Rattle.generations.specs.declared.saving.SaveError.TheVariants.{FolderFault, Memory}
 use Rattle.generations.specs.GenerationNames.{generation_name}
-use Rattle.generations.specs.Pruning.{Prunes, PrunesTo, ToldLosesAll, ToldLosesSome}
+use Rattle.generations.specs.Pruning.{Prunes, PrunesTo, ToldLosesSome}
 use Rattle.generations.specs.Removing.{AreToldUnused, HasRemoved, KeepsRest, ListFails, Removes, StopsRemoving, ToldLoses}
-use Rattle.generations.specs.Saved.{save_error_of}
-use Rattle.generations.proofs.PruningLemmas.{all-lost, none-lost, some-lost, told-more, told-none}
+use Rattle.generations.proofs.PruningLemmas.{some-lost, told-more}
 
 -- ---- what is kept
-
-pub keeps-nothing : (v : FolderView) → KeepsRest v v
-keeps-nothing v = record { later = record { faults = omega arith; held = omega arith; changes = omega arith }; is = refl }
 
 pub keeps-then : (old mid new : FolderView) → KeepsRest old mid → KeepsRest mid new → KeepsRest old new
 keeps-then old mid new first last =
@@ -31,23 +25,9 @@ keeps-then old mid new first last =
 pub calm-keeps : (old new : FolderView) → Calm old new → KeepsRest old new
 calm-keeps old new calm = record { later = calm.later; is = ap (λ (v : FolderView). record v { files = new.files; faults = new.faults; held = new.held; changes = new.changes }) calm.is }
 
-pub keeps-locked : (old new : FolderView) → KeepsRest old new → new.locked ≡ old.locked
-keeps-locked old new rest = ap (λ (v : FolderView). v.locked) rest.is
-
 -- ---- one removal
 
--- the folder's answer as one of saving
-pub removes-done : (name : List ℕ) (old new : FolderView) → Removed name old new (Ok tt) → Removes name old new (Ok tt)
-removes-done name old new removed = record { rest = record { later = removed.changes.later; is = removed.changes.is }; to = removed.to }
-
-pub removes-not : (name : List ℕ) (old new : FolderView) (error : FolderError) → Removed name old new (Err error) → Removes name old new (Err (save_error_of error))
-removes-not name old new folder.Failed removed = record { rest = record { later = removed.changes.later; is = removed.changes.is }; to = (removed.to, removed.fault) }
-removes-not name old new folder.Memory removed = record { rest = record { later = removed.changes.later; is = removed.changes.is }; to = removed.to }
-
 -- ---- removals in turn
-
-pub removed-none : (v : FolderView) → HasRemoved [] v v
-removed-none v = record { rest = keeps-nothing v; loses = told-none v.files v.files refl }
 
 module _ (numbers : List ℕ) (i : ℕ) (old mid new : FolderView) (inside : i < length numbers) (first : HasRemoved (take i numbers) old mid) where
   pub removed-next : Removes (generation_name (get_or numbers i 0)) mid new (Ok tt) → HasRemoved (take (i + 1) numbers) old new
@@ -72,18 +52,7 @@ module _ (numbers : List ℕ) (i : ℕ) (old mid new : FolderView) (inside : i <
       ]
   removing-stops Memory removes = record { count = i; first = stops-before removes.to removes.rest; cause = tt }
 
-pub removed-all : (numbers : List ℕ) (i : ℕ) (old new : FolderView) → length numbers ≤ i → HasRemoved (take i numbers) old new → HasRemoved numbers old new
-removed-all numbers i old new all removed = subst (λ ns. HasRemoved ns old new) (take_all i numbers all) removed
-
 -- ---- pruning
-
-pub listing-stops : (old new : FolderView) (error : SaveError) → Calm old new → ListFails old new error → Prunes old new (Err error)
-listing-stops old new FolderFault calm fails =
-    let rest = calm-keeps old new calm in
-    record { later = rest.later; is = rest.is; to = (none-lost old.files new.files (ap (λ (v : FolderView). v.files) calm.is), fails) }
-listing-stops old new Memory calm fails =
-    let rest = calm-keeps old new calm in
-    record { later = rest.later; is = rest.is; to = none-lost old.files new.files (ap (λ (v : FolderView). v.files) calm.is) }
 
 module _ (numbers : List ℕ) (old mid new : FolderView) (unused : AreToldUnused old.files numbers) (calm : Calm old mid) where
   files-same : mid.files ≡ old.files
@@ -91,21 +60,6 @@ module _ (numbers : List ℕ) (old mid new : FolderView) (unused : AreToldUnused
 
   lost : (gone : List ℕ) → ToldLoses mid.files new.files gone → ToldLoses old.files new.files gone
   lost gone loses = subst (λ (fs : Option Files). ToldLoses fs new.files gone) files-same loses
-
-  pub pruned-all : HasRemoved numbers mid new → (numbers ≡ [] → new.changes ≡ mid.changes) → (count : ℕ) → count ≡ length numbers → Prunes old new (Ok count)
-  pruned-all removed still count is =
-      let rest = keeps-then old mid new (calm-keeps old mid calm) removed.rest in
-      record {
-        later = rest.later;
-        is = rest.is;
-        to = (
-          subst (ToldLosesAll old.files new.files) (sym is) (all-lost old.files new.files numbers unused (lost numbers removed.loses)),
-          λ zero. still (no-numbers numbers (sym is ∙ zero)) ∙ ap (λ (v : FolderView). v.changes) calm.is,
-        );
-      } where
-        no-numbers : (ns : List ℕ) → length ns ≡ 0 → ns ≡ []
-        no-numbers [] none = refl
-        no-numbers (n ∷ ns) none = absurd (omega (arith, none))
 
   pub pruned-some : (error : SaveError) → StopsRemoving numbers mid new error → Prunes old new (Err error)
   pruned-some error stops =

@@ -88,8 +88,8 @@ pub fn open_folder<F: Folder>(alloc: Global, folder: &mut F, size: u64) -> Resul
     requires entered { (F.view folder.old).entered ≡ true }
     requires least { 4096 ≤ size }
     requires most { size ≤ 67108864 }
-    ensures ok { IfOk result (λ opened. IsOpened size (F.view folder.old) (F.view folder.new) opened) }
-    ensures err { IfErr result (λ error. OpenFails (F.view folder.old) (F.view folder.new) error) }
+    ensures opened { IfOk result (λ opened. IsOpened size (F.view folder.old) (F.view folder.new) opened) }
+    ensures refused { IfErr result (λ error. OpenFails (F.view folder.old) (F.view folder.new) error) }
     ensures opens { Opens (F.view folder.old) (F.view folder.new) }
 {
     if !folder.try_lock()? {

@@ -6,3 +6,4 @@ pub mod Written
 pub mod Brought
 pub mod Stored
 pub mod Loaded
+pub mod Refusals

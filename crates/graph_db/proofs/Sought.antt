@@ -303,11 +303,6 @@ read-sought note digest cell old mid new value mine looked lawful read =
 
 -- ---- want of memory
 
-pub wants-seek : (note : Note) (digest : Digest) (old new : View) → WantsMemory old new → SeekStops note digest old new
-wants-seek note digest old new wants =
-    subst (λ (v : View). SeekStops note digest old v) (sym wants.same)
-    (record { takes = wants.takes; reads = record { more = []; is = refl; own = tt }; cost = omega arith; stands = λ calls call is may opens. opens })
-
 pub looked-wants : (note : Note) (digest : Digest) (cell : Place) (old mid new : View) → SpeaksFor old note.who → Looked note Objects digest old mid (Some cell) → WantsMemory mid new → SeekStops note digest old new
 looked-wants note digest cell old mid new mine looked wants =
     let first = looked-reads note digest old mid (Some cell) mine looked in

@@ -239,10 +239,6 @@ ends-then who call reply a b c m n ab bc = record {
 pub ends-more : (who : Who) (call : Call) (reply : Option Reply) (a b : View) (m n : ℕ) → m ≤ n → Ends who call reply a b m → Ends who call reply a b n
 ends-more who call reply a b m n le e = record { goes = e.goes; stands = e.stands; cost = let one = e.cost in omega (arith, one, le) }
 
--- want of memory adds nothing
-pub wants-ends : (who : Who) (call : Call) (a b : View) (n : ℕ) → WantsMemory a b → Ends who call None a b n
-wants-ends who call a b n wants = subst (λ (v : View). Ends who call None a v n) (sym wants.same) (ends-self who call a n)
-
 pub wants-stops : (who : Who) (call : Call) (a b : View) (n : ℕ) → WantsMemory a b → Stops who call a b n
 wants-stops who call a b n wants = subst (λ (v : View). Stops who call a v n) (sym wants.same) (record { takes = wants.takes; left = []; opened = refl; ends = ends-self who call a n })
 

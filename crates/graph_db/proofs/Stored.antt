@@ -10,7 +10,6 @@ use Rattle.cas_model.specs.declared.digest.Digest.{Digest}
 use Rattle.cas_model.specs.declared.object.Object.{Object}
 use Rattle.cas_model.specs.Object.{object_digest, digest_of}
 use Rattle.cas_model.specs.State.{State, has}
-use Rattle.cas_history.specs.Conduct.{missed, is_own}
 use Rattle.cas_history.specs.Cost.{object_cost}
 use Rattle.cas_history.specs.History.{decided_at, reply_with}
 use Rattle.cas_history.specs.Run.{tables as tables_after}
@@ -28,7 +27,7 @@ use Rattle.cas_model.specs.Notes.{own_note}
 use Rattle.graph_db.specs.Storing.{HasSoughtValue, IsLawfulOrSame, HasRefs, FindsRefs, Brings, BringStops}
 use Rattle.graph_db.proofs.Binds.{reads-never}
 use Rattle.graph_db.proofs.Steps.{goes-speaks, goes-upstream, reads-goes, reads-then, ends-then, ends-more, then-stops, stops-more}
-use Rattle.graph_db.proofs.Found.{refs-there, refs-stay, goes-grows, sought-ends, sought-last, missed-here, seek-stops, lawful-same-then, not-zero-test}
+use Rattle.graph_db.proofs.Found.{refs-there, refs-stay, goes-grows, sought-ends, sought-last, seek-stops, lawful-same-then, not-zero-test}
 
 module _ (who : Who) (refs : List Digest) (bytes : List ℕ) (digest : Digest) (old mid : View) (is : digest ≡ digest_of refs bytes) (first : FindsRefs who refs old mid) where
   may-seek-own : MaySeek mid (own_note who) (Store (object_with refs bytes)) digest
@@ -69,14 +68,8 @@ module _ (who : Who) (refs : List Digest) (bytes : List ℕ) (digest : Digest) (
         ap (λ n. reply_with n (λ _. Some (reply.Stored (digest_of refs bytes)))) v.left in
         ends-then who (Store (object_with refs bytes)) None old mid now 0 0 (first.ends bytes) (sought-ends (own_note who) digest mid now false (Store (object_with refs bytes)) None v.sought may-seek-own says)
 
-    pub miss-speaks : SpeaksFor old who → SpeaksFor now who
-    miss-speaks mine = goes-speaks who who old now miss-ends.goes mine
-
     pub miss-refs : HasRefs who refs now
     miss-refs = refs-stay who who refs mid now (reads-goes who mid now v.sought.reads) lawful.is first.refs
-
-    pub miss-missed : missed now.start who is_own now.seen ≡ true
-    miss-missed = missed-here (own_note who) digest mid now is_own refl v.sought
 
     -- what was missed was not there before
     never-had : IsLawfulOrSame old mid → has (seen_state old) digest ≡ true → ⊥

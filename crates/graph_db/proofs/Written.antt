@@ -1,5 +1,5 @@
 -- Writing the words of a content into the call's newest block.
-use Rattle.std.proofs.Common.{◌≡◌, ℕ, zero, suc, ◌+◌, ◌*◌, ◌/◌, ◌<◌, ◌≤◌, List, [], ◌∷◌, ◌++◌, Bool, true, cond, None, Some, IsSome, IsTrue, is_some, refl, ap, sym, ◌∙◌, subst, arith, add-one, slice_get, take, drop, length, get_or, set, map, unwrap_or, w64}
+use Rattle.std.proofs.Common.{◌≡◌, ℕ, zero, suc, ◌+◌, ◌*◌, ◌/◌, ◌<◌, ◌≤◌, List, [], ◌∷◌, ◌++◌, Bool, true, cond, None, Some, IsSome, is_some, refl, ap, sym, ◌∙◌, subst, arith, add-one, slice_get, take, drop, length, get_or, set, map, unwrap_or, w64}
 use Rattle.std.specs.declared.option.Option.{Option}
 use Rattle.std.specs.Int.{from_le_bytes}
 use Rattle.std.proofs.lemmas.Bool.{eq-eqb}
@@ -20,14 +20,14 @@ use Rattle.cas_history.proofs.Grown.{Grows}
 use Rattle.cas_port.specs.declared.block.Block.{Block}
 use Rattle.cas_port.specs.declared.block.OpenBlock.{OpenBlock}
 use Rattle.cas_port.specs.Blank.{none_written}
-use Rattle.cas_port.specs.Calls.{Adds, IsLawful, IsOpen, HasWritten, Looked, WantsMemory}
+use Rattle.cas_port.specs.Calls.{Adds, IsLawful, IsOpen, HasWritten, Looked}
 use Rattle.cas_port.specs.View.{View, tables, open_words, write_word, all_written}
 use Rattle.graph_db.specs.Events.{SpeaksFor, Ends}
 use Rattle.graph_db.specs.Holds.{MaySeek}
 use Rattle.graph_db.specs.Stores.{object_with}
 use Rattle.cas_model.specs.Notes.{ref_note}
-use Rattle.graph_db.specs.Storing.{HasRefs, AreFilled, places_in, place_number, partly, block_of, IsOpenAlone, shut, Writes, WriteStops}
-use Rattle.graph_db.proofs.Steps.{ends-self, ends-then, reads-goes, goes-speaks, goes-takes, asked-readings}
+use Rattle.graph_db.specs.Storing.{HasRefs, AreFilled, places_in, place_number, partly, block_of, IsOpenAlone, shut, Writes}
+use Rattle.graph_db.proofs.Steps.{ends-self, ends-then, reads-goes, goes-speaks, asked-readings}
 use Rattle.graph_db.proofs.Sought.{looked-reads, looked-stands}
 use Rattle.graph_db.proofs.Found.{goes-grows, refs-stay, may-seek-ref}
 use Rattle.cas_history.specs.Cost.{asked}
@@ -236,10 +236,6 @@ module _ (who : Who) (refs : List Digest) (bytes : List ℕ) (old v : View) (blo
             (looked-ends (ref_note who i) (Store (object_with refs bytes)) d (shut v) (shut new) place writes-speaks may (looked-shut (ref_note who i) d v new (Some place) looked));
         opened = ap (λ (x : View). x.opened) looked.adds.is ∙ writes.opened;
       }
-
-  pub write-stops : (new : View) → WantsMemory v new → WriteStops who (object_with refs bytes) old new block
-  write-stops new wants = subst (λ (x : View). WriteStops who (object_with refs bytes) old x block) (sym wants.same)
-      (record { takes = subst IsTrue (goes-takes who (shut old) (shut v) writes.ends.goes) wants.takes; words = words; writes = writes })
 
 -- ---- the words, one after another
 

@@ -25,8 +25,8 @@ pub fn load<P: CellPort>(
     digest: &Digest,
 ) -> Result<Option<Object>, AllocError>
     requires { SpeaksFor (P.view port.old) who }
-    ensures ok { IfOk result (HasLoaded who digest.now (P.view port.old) (P.view port.new)) }
-    ensures err { OnErr result (LoadStops who digest.now (P.view port.old) (P.view port.new)) }
+    ensures loaded { IfOk result (HasLoaded who digest.now (P.view port.old) (P.view port.new)) }
+    ensures memory { OnErr result (LoadStops who digest.now (P.view port.old) (P.view port.new)) }
     ensures lawful { IsLawful (P.view port.old) (P.view port.new) }
 {
     load_counted::<Brand, P>(alloc, port, who, digest, Blank::new(1))

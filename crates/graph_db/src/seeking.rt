@@ -16,8 +16,8 @@ use std::sync::ledger::{Blank, Ledger};
 /// A crate that brings objects in asks this before it does.
 pub fn holds<P: CellPort>(port: &mut P, note: Note, digest: &Digest) -> Result<bool, AllocError>
     requires { Speaks (P.view port.old) note }
-    ensures ok { IfOk result (λ found. HasSought note digest.now (P.view port.old) (P.view port.new) found) }
-    ensures err { OnErr result (SeekStops note digest.now (P.view port.old) (P.view port.new)) }
+    ensures found { IfOk result (λ found. HasSought note digest.now (P.view port.old) (P.view port.new) found) }
+    ensures memory { OnErr result (SeekStops note digest.now (P.view port.old) (P.view port.new)) }
     ensures lawful { IsLawful (P.view port.old) (P.view port.new) }
 {
     holds_counted::<Brand, P>(port, note, digest, Blank::new(1))

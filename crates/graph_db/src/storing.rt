@@ -4,14 +4,17 @@ ghost use Rattle.std.specs.FinMap as fin;
 ghost use Rattle.cas_model.specs.Content.{content_size, content_words};
 ghost use Rattle.cas_model.specs.Object.{digest_of};
 ghost use Rattle.cas_model.specs.Tables.{place_of};
+ghost use Rattle.cas_model.specs.declared.call.Call.TheVariants.{Store};
 ghost use Rattle.cas_model.specs.declared.place.Space.TheVariants.{Objects};
+ghost use Rattle.cas_history.specs.Cost.{object_cost};
+ghost use Rattle.graph_db.specs.Errors.{IfDangling, IfFull, OnMemory};
 ghost use Rattle.cas_history.specs.Conduct.{is_own, missed};
 ghost use Rattle.cas_port.specs.Blank.{none_written};
 ghost use Rattle.cas_port.specs.Calls.{IsLawful, Looked, Speaks, WantsMemory};
 ghost use Rattle.cas_port.specs.View.{tables};
-ghost use Rattle.graph_db.specs.Events.{IsBrought, SpeaksFor};
+ghost use Rattle.graph_db.specs.Events.{IsBrought, SpeaksFor, Stops};
 ghost use Rattle.graph_db.specs.Storing.{HasRefs, FindsRefs, IsLawfulOrSame, IsRefusedFor, Brings, BringStops, IsOpenAlone, Writes, WriteStops, places_in};
-ghost use Rattle.graph_db.specs.Stores.{HasStored, IsRefused, object_with};
+ghost use Rattle.graph_db.specs.Stores.{HasNoRoom, HasStored, IsDangling, IsRefused, object_with};
 
 use crate::StoreError;
 use crate::seeking::seek;
@@ -38,8 +41,10 @@ pub fn store<P: CellPort>(
     requires few_refs { length refs.now ≤ 65535 }
     requires short { length «data».now ≤ 16777215 }
     requires brought { IsBrought (P.view port.old) (digest_of refs.now «data».now) }
-    ensures ok { IfOk result (HasStored who (object_with refs.now «data».now) (P.view port.old) (P.view port.new)) }
-    ensures err { IfErr result (IsRefused who (object_with refs.now «data».now) (P.view port.old) (P.view port.new)) }
+    ensures stored { IfOk result (HasStored who (object_with refs.now «data».now) (P.view port.old) (P.view port.new)) }
+    ensures dangling { IfErr result (IfDangling (IsDangling who (object_with refs.now «data».now) (P.view port.old) (P.view port.new))) }
+    ensures full { IfErr result (IfFull (HasNoRoom who (object_with refs.now «data».now) (P.view port.old) (P.view port.new))) }
+    ensures memory { IfErr result (OnMemory (Stops who (Store (object_with refs.now «data».now)) (P.view port.old) (P.view port.new) (object_cost (object_with refs.now «data».now)))) }
     ensures lawful { IsLawful (P.view port.old) (P.view port.new) }
 {
     store_with_digest(port, who, &Digest::of(refs, data), refs, data)
@@ -59,8 +64,10 @@ pub fn store_with_digest<P: CellPort>(
     requires few_refs { length refs.now ≤ 65535 }
     requires short { length «data».now ≤ 16777215 }
     requires brought { IsBrought (P.view port.old) digest.now }
-    ensures ok { IfOk result (HasStored who (object_with refs.now «data».now) (P.view port.old) (P.view port.new)) }
-    ensures err { IfErr result (IsRefused who (object_with refs.now «data».now) (P.view port.old) (P.view port.new)) }
+    ensures stored { IfOk result (HasStored who (object_with refs.now «data».now) (P.view port.old) (P.view port.new)) }
+    ensures dangling { IfErr result (IfDangling (IsDangling who (object_with refs.now «data».now) (P.view port.old) (P.view port.new))) }
+    ensures full { IfErr result (IfFull (HasNoRoom who (object_with refs.now «data».now) (P.view port.old) (P.view port.new))) }
+    ensures memory { IfErr result (OnMemory (Stops who (Store (object_with refs.now «data».now)) (P.view port.old) (P.view port.new) (object_cost (object_with refs.now «data».now)))) }
     ensures lawful { IsLawful (P.view port.old) (P.view port.new) }
 {
     store_counted::<Brand, P>(port, who, digest, refs, data, Blank::new(1))

@@ -100,7 +100,7 @@ impl Replay {
         ensures upstream { IfOk result (λ new. new.upstream ≡ self.upstream) }
         ensures calls { IfOk result (λ new. new.calls ≡ self.calls) }
         ensures may { OnOk result (MayHappen (state_of self.upstream) self.tables event.note.who event.act) }
-        ensures err { IfErr result (λ error. IsStopped (state_of self.upstream) self.tables event error) }
+        ensures refused { IfErr result (λ error. IsStopped (state_of self.upstream) self.tables event error) }
     {
         if !self
             .rows

@@ -1,7 +1,7 @@
 -- The bytes of words, and the words of bytes.
-use Rattle.std.proofs.Common.{◌≡◌, ◌≢◌, ℕ, zero, suc, ◌+◌, ◌*◌, ◌-◌, ◌/◌, ◌%◌, ◌^◌, ◌<◌, ◌≤◌, List, [], ◌∷◌, ◌++◌, length, take, drop, get_or, slice_index, refl, ap, sym, ◌∙◌, subst, add-one, append_assoc, append-nil, arith, w64}
+use Rattle.std.proofs.Common.{◌≡◌, ◌≢◌, ℕ, zero, suc, ◌+◌, ◌*◌, ◌-◌, ◌/◌, ◌%◌, ◌^◌, ◌<◌, ◌≤◌, List, [], ◌∷◌, ◌++◌, length, take, drop, get_or, slice_index, refl, ap, sym, ◌∙◌, subst, add-one, append_assoc, arith, w64}
 use Rattle.std.specs.Int.{to_le_bytes, from_le_bytes}
-use Rattle.std.proofs.lemmas.List.{drop_all, drop-drop, length-append, length-take-le, take-append-drop}
+use Rattle.std.proofs.lemmas.List.{drop-drop, length-append, length-take-le, take-append-drop}
 use Rattle.std.proofs.lemmas.Nat.{from_le_bytes-to_le_bytes_8}
 use Rattle.std.proofs.Math.Seq.{drop-cons, take_all, take-append_seam, drop-append_seam}
 use Rattle.sha2.specs.Sha256.{sha256}
@@ -25,9 +25,6 @@ bytes-more words i word other bytes after whole lt at so_far is =
     let here : drop i words ≡ word ∷ drop (i + 1) words = drop-cons words i other lt ∙ ap (λ z. z ∷ drop (suc i) words) (sym at) ∙ ap (λ n. word ∷ drop n words) (sym (add-one i)) in
     ap (λ xs. xs ++ bytes_of (drop (i + 1) words)) is ∙ append_assoc bytes (to_le_bytes w64 word) (bytes_of (drop (i + 1) words))
     ∙ sym (ap (λ ws. bytes ++ bytes_of ws) here) ∙ so_far
-
-pub bytes-all : (words : List ℕ) (i : ℕ) (bytes whole : List ℕ) → length words ≤ i → bytes ++ bytes_of (drop i words) ≡ whole → bytes ≡ whole
-bytes-all words i bytes whole le so_far = sym (append-nil bytes) ∙ sym (ap (λ ws. bytes ++ bytes_of ws) (drop_all i words le)) ∙ so_far
 
 -- words that stand for a state are at most as many as the largest region has
 pub at-most : (words given : List ℕ) (size : ℕ) (state : State) → Stands words size state → given ≡ words → length given ≤ 67108864

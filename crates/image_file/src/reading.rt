@@ -21,8 +21,8 @@ const SUM: usize = 32;
 
 /// The closed region that these bytes are the image of, or the first reason why they are none.
 pub fn read_image(alloc: Global, bytes: &[u8]) -> Result<Frozen, ImageError>
-    ensures ok { IfOk result (λ frozen. bytes.now ≡ image_bytes frozen.words) }
-    ensures err { IfErr result (RefusesImage bytes.now) }
+    ensures read { IfOk result (λ frozen. bytes.now ≡ image_bytes frozen.words) }
+    ensures refused { IfErr result (RefusesImage bytes.now) }
 {
     let body = body_of(bytes)?;
     let words = words_of(alloc, body)?;

@@ -46,9 +46,6 @@ pub record Walked (words : List ℕ) (s : Space) (d : Digest) (slot level table 
   pub lead : Leads words s (path d.bytes level) table
   pub missed : (l t : ℕ) → l < level → Leads words s (path d.bytes l) t → slot ≢ t + index_of d.bytes l
 
-pub walked_first : (words : List ℕ) (s : Space) (d : Digest) (slot : ℕ) → Walked words s d slot 0 (root s)
-walked_first words s d slot = record { lead = refl; missed = λ l t h. absurd (omega arith) }
-
 module _ (words : List ℕ) (s : Space) (d : Digest) (slot level table : ℕ) (w : Walked words s d slot level table) (high : level ≤ 62) where
   pub walked_inside : 520 ≤ length words → (k : ℕ) → k < width (path d.bytes level) → table + k < length words
   walked_inside least k h = cases (path d.bytes level) w.lead h
@@ -60,9 +57,6 @@ module _ (words : List ℕ) (s : Space) (d : Digest) (slot level table : ℕ) (w
       cases : (above : List ℕ) → Leads words s above table → k < width above → table + k < length words
       cases [] lead h = omega (arith, lead, low s)
       cases (j ∷ above) lead h = omega (arith, lead.3.2)
-
-  pub walked_here : slot ≡ table + index_of d.bytes level → LeadsTo words s d slot
-  walked_here is = (level, high, table, w.lead, is)
 
   missed_here : slot ≢ table + index_of d.bytes level → (l t : ℕ) → l ≤ level → Leads words s (path d.bytes l) t → slot ≢ t + index_of d.bytes l
   missed_here other l t h lead is = elim (cases_eq l level) [
@@ -89,6 +83,3 @@ module _ (words : List ℕ) (s : Space) (d : Digest) (slot level table : ℕ) (w
         none z.0 (subst (λ k. NamesTableAt words (table + k) z.0) (sym at) (subst (λ u. NamesTableAt words (u + index_of d.bytes level) z.0) up z.1.3))
     | inr upper ↦ missed_here (λ e. other (e ∙ ap (λ k. table + k) (sym at))) x.0 x.2 upper x.3 x.4
   ]
-
-pub walked_all : (words : List ℕ) (s : Space) (d : Digest) (slot level table : ℕ) → Walked words s d slot level table → 63 ≤ level → LeadsTo words s d slot → ⊥
-walked_all words s d slot level table w end x = w.missed x.0 x.2 (omega (arith, x.1)) x.3 x.4

@@ -39,18 +39,6 @@ lists_push tables x t l = (l.0, omega (arith, length_push tables x, l.1), ap (λ
 lists_last : (tables : List Table) (x : Table) → Lists (tables ++ x ∷ []) x.place
 lists_last tables x = (length tables, omega (arith, length_push tables x), ap (λ (e : Table). e.place) (get_or_push tables x no_table (length tables) refl))
 
-pub entered_none : (words : List ℕ) (table : Table) (marks : List Bool) (tables : List Table) → Entered words table 0 marks marks tables tables
-entered_none words table marks tables = record {
-  long = refl;
-  grows = λ t h. h;
-  longer = omega arith;
-  kept = λ k h. refl;
-  new = λ k h1 h2. absurd (omega arith);
-  listed = λ t h. inl h;
-  done = λ j t h. absurd (omega arith);
-  less = omega arith;
-}
-
 pub entered_more :
     (words : List ℕ) (table : Table) (n : ℕ) (a b c : List Bool) (p q r : List Table)
     → length a ≡ length words → Entered words table n a b p q → EnteredSlot words table n b c q r → Entered words table (n + 1) a c p r
@@ -110,9 +98,6 @@ root_low : (s : Space) → (8 ≤ root s) × (root s + 256 ≤ 520)
 root_low Objects = (omega arith, omega arith)
 root_low Actions = (omega arith, omega arith)
 
-abbrev first_table : Space → Table
-first_table s = record { place = root s; level = 0 }
-
 wide_below : (n : ℕ) → 0 < n → cond {A = ℕ} (n == 0) 256 16 ≡ 16
 wide_below n some = elim (cases_Bool (n == 0)) [
   | inl hit ↦ absurd (omega (arith, some, eqb-true n 0 hit))
@@ -141,17 +126,6 @@ table_inside words s table least led = cases led.above led.leads (slots_are word
     cases (j ∷ others) way slots = omega (arith, slots, way.3.2)
 
 -- ---- the search
-
-pub searching_first : (words : List ℕ) (s : Space) (marks : List Bool) (tables : List Table) → length marks ≡ length words → ((t : ℕ) → Marked marks t → ⊥) → tables ≡ first_table s ∷ [] → Searching words s marks tables 0
-searching_first words s marks tables long none is = rw is (record {
-  long = long;
-  within = omega arith;
-  some = omega arith;
-  first = refl;
-  only = λ k h. let at : k ≡ 0 = omega arith in subst (λ i. IsLed words s (table_of (first_table s ∷ []) i)) (sym at) (record { above = []; leads = refl; level = refl });
-  listed = λ t m. absurd (none t m);
-  done = λ k j t h. absurd (omega arith);
-})
 
 level_more : (n m : ℕ) → n ≡ min m 64 → min (n + 1) 64 ≡ min (suc m) 64
 level_more n m h = omega arith

@@ -1,38 +1,18 @@
 -- The least word that lies in two blocks.
-use Rattle.std.proofs.Common.{◌≡◌, ◌≢◌, ◌⊎◌, ℕ, ◌+◌, ◌-◌, ◌/◌, ◌%◌, ◌<◌, ◌≤◌, min, List, length, get_or, set, length-set, get_or-set_same, get_or-set_other, Some, None, inl, inr, refl, sym, ap, ◌∙◌, subst, arith}
+use Rattle.std.proofs.Common.{◌≡◌, ◌≢◌, ◌⊎◌, ℕ, ◌+◌, ◌-◌, ◌/◌, ◌%◌, ◌<◌, ◌≤◌, min, List, length, get_or, Some, None, inl, inr, refl, sym, ap, ◌∙◌, subst, arith}
 use Rattle.std.specs.declared.option.Option.{Option}
 use Rattle.std.proofs.lemmas.Bool.{cases_eq, cases_lt}
 use Rattle.cas_model.specs.declared.place.Space.{Space}
 use Rattle.region_check.specs.Flaws.{Naming, BySlot, ByCell, Covers, LiesIn, IsShared, IsSlotOf, IsReached, IsTooLong, end_told}
 use Rattle.region_check.specs.Passes.{HasNoneBefore}
 use Rattle.region_check.proofs.Rows.{slot_within}
-use Rattle.region_check.specs.Roles.{IsClaimed, AreRoles, AreUnclaimed}
+use Rattle.region_check.specs.Roles.{IsClaimed, AreRoles}
 use Rattle.region_check.specs.Shown.{LeastWhere, lower_of}
 use Rattle.region_check.specs.Sweep.{MarkedRun, BlockMarked, OneSwept, CellSwept, IsBefore, SharedOf, IsBelow, Swept}
 use Rattle.region_core.specs.Leads.{length_told}
 use Rattle.region_check.proofs.Rows.{least_same}
 
 -- ---- one block
-
-pub run_none : (before : List ℕ) (at : ℕ) → MarkedRun before before at at
-run_none before at = record { long = refl; same = λ w h. refl; more = λ w low high. absurd (omega arith) }
-
-pub run_more : (before mid : List ℕ) (at word : ℕ) → at ≤ word → word < length before → MarkedRun before mid at word → get_or mid word 0 < 4 → MarkedRun before (set mid word (get_or mid word 0 + 4)) at (word + 1)
-run_more before mid at word low inside run free =
-    let x : ℕ = get_or mid word 0 + 4 in
-    record {
-      long = length-set mid word (get_or mid word 0 + 4) ∙ run.long;
-      same = λ w h. get_or-set_other mid word w (get_or mid word 0 + 4) 0 (λ e. elim h [ inl a ↦ omega arith | inr b ↦ omega arith ]) ∙ run.same w (elim h [ inl a ↦ inl a | inr b ↦ inr (omega arith) ]);
-      more = λ w a b. elim (cases_eq w word) [
-        | inl e ↦
-            let was : get_or mid word 0 ≡ get_or before word 0 = run.same word (inr (omega arith)) in
-            let now : get_or (set mid word (get_or mid word 0 + 4)) word 0 ≡ get_or mid word 0 + 4 = get_or-set_same mid word (get_or mid word 0 + 4) 0 (omega (arith, run.long)) in
-            subst (λ k. (get_or before k 0 < 4) × (get_or (set mid word (get_or mid word 0 + 4)) k 0 ≡ get_or before k 0 + 4)) (sym e) (omega (arith, was, free), omega (arith, was, now))
-        | inr ne ↦
-            let z = run.more w a (omega arith) in
-            (z.0, get_or-set_other mid word w (get_or mid word 0 + 4) 0 ne ∙ z.1)
-      ];
-    }
 
 -- ---- the roles stay
 
@@ -284,17 +264,6 @@ swept_same words D E roles least to back s = record {
   least_is = least_same (SharedOf words D) (SharedOf words E) least (λ w z. (z.0, z.1, z.2, to z.0 z.3, to z.1 z.4, z.5, z.6)) (λ w z. (z.0, z.1, z.2, back z.0 z.3, back z.1 z.4, z.5, z.6)) s.least_is;
 }
 
-pub swept_first : (words roles : List ℕ) → AreUnclaimed roles → Swept words (IsBefore 0) roles None
-swept_first words roles small = record {
-  marked = λ x w d. absurd (none x d);
-  from = λ w c. absurd (omega (arith, c, small w));
-  least_is = λ w z. none z.0 z.3;
-}
-  where
-    none : (x : Naming) → IsBefore 0 x → ⊥
-    none (BySlot slot) h = omega arith
-    none (ByCell cell) h = omega arith
-
 -- both namings at one place
 pub swept_place :
     (words : List ℕ) (n : ℕ) (a b c : List ℕ) (least one two : Option ℕ) → Swept words (IsBefore n) a least → OneSwept words (BySlot n) a b one → OneSwept words (ByCell n) b c two
@@ -335,9 +304,6 @@ swept_end words roles n least long all s =
     s.least_is
 
 -- ---- what the roles say
-
-pub no_slot : (words roles : List ℕ) (slot : ℕ) → AreRoles words roles → get_or roles slot 0 % 2 ≡ 0 → (p n : ℕ) → Covers words (BySlot slot) p n → ⊥
-no_slot words roles slot are even p n x = let odd : get_or roles slot 0 % 2 ≡ 1 = (are.slots slot).1 x.0 in omega arith
 
 pub no_cell : (words roles : List ℕ) (cell : ℕ) → AreRoles words roles → get_or roles cell 0 / 2 % 2 ≡ 0 → (p n : ℕ) → Covers words (ByCell cell) p n → ⊥
 no_cell words roles cell are even p n x = let odd : get_or roles cell 0 / 2 % 2 ≡ 1 = (are.cells cell).1 (x.0, x.2.0.0.0, x.1) in omega arith

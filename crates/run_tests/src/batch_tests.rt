@@ -1,7 +1,7 @@
 // Batches and workloads over a folder in memory.
 ghost use Rattle.std.specs.Prelude.{◌≡◌, None};
 
-use crate::testing::{folder_failing, fresh_folder, run_in, tells, writes};
+use run_fixtures::{folder_failing, fresh_folder, run_in, tells, writes};
 use cas_model::{Digest, Id};
 use cas_outside::MemFolder;
 use std::alloc::{AllocError, Global};

@@ -1,5 +1,5 @@
 // Runs over sources and sinks in memory: the worked answers, with ids that another implementation of SHA-256 computed.
-use crate::testing::{EMPTY, End, HELLO, Ran, ZERO, fresh_folder, nothing, owned, run_words};
+use run_fixtures::{EMPTY, End, HELLO, Ran, ZERO, fresh_folder, nothing, owned, run_words};
 use cas_command::{Answer, Large, answer_text};
 use cas_model::{Digest, Full, Id, IdError};
 use cas_outside::{MemSink, MemSource};

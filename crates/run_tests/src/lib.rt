@@ -1,4 +1,4 @@
-//! Tests of the top call, one command after another over folders in memory.
+//! Tests of the top call: words, commands, batches, and what fails.
 #![tactic(auto)]
 
 #[cfg(test)]
@@ -6,10 +6,4 @@ mod batch_tests;
 #[cfg(test)]
 mod command_tests;
 #[cfg(test)]
-mod generation_tests;
-#[cfg(test)]
 mod limit_tests;
-#[cfg(test)]
-mod store_tests;
-#[cfg(test)]
-mod testing;

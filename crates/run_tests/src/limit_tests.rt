@@ -1,7 +1,7 @@
 // The largest blob, a store that is full, and a script with lines that do not fit.
 ghost use Rattle.std.specs.Prelude.{◌≡◌, None};
 
-use crate::testing::{End, end_in, folder_failing, fresh_folder, nothing, run_over, tells, writes};
+use run_fixtures::{End, end_in, folder_failing, fresh_folder, nothing, run_over, tells, writes};
 use cas_command::{Answer, Large};
 use cas_model::Full;
 use cas_outside::{MemFolder, MemSink, MemSource};

@@ -1,11 +1,9 @@
 -- Texts that are written piece by piece.
-use Rattle.std.proofs.Common.{◌≡◌, ℕ, suc, ◌≤◌, List, [], ◌∷◌, ◌++◌, length, drop, slice_get, codes, Some, ap, sym, ◌∙◌, subst, append_assoc, append-nil}
+use Rattle.std.proofs.Common.{◌≡◌, ℕ, suc, ◌≤◌, List, [], ◌∷◌, ◌++◌, length, drop, slice_get, Some, ap, sym, ◌∙◌, subst, append_assoc, append-nil}
 use Rattle.cas_model.specs.declared.call.Reply.{Reply}
 use Rattle.cas_model.specs.declared.digest.Digest.{Digest}
-use Rattle.sessions.specs.declared.replies.SessionReplies.{SessionReplies}
 use Rattle.cas_script.specs.declared.script.Line.{Line}
-use Rattle.cas_script.specs.declared.script.Session.{Session}
-use Rattle.sessions.specs.Rendering.{named, refs_text, front_text, line_text, lines_text, own_count, sessions_text}
+use Rattle.sessions.specs.Rendering.{refs_text, front_text, line_text, lines_text, own_count}
 use Rattle.sessions.proofs.LinesRun.{drop-at, drop-all}
 
 -- one more piece is written
@@ -14,11 +12,6 @@ piece text new piece_ rest all left is = ap (λ (t : List ℕ). t ++ rest) is �
 
 done : (text rest all : List ℕ) → text ++ rest ≡ all → rest ≡ [] → text ≡ all
 done text rest all left none = sym (append-nil text) ∙ ap (λ (r : List ℕ). text ++ r) (sym none) ∙ left
-
-pub refs-next : (text new all : List ℕ) (refs : List Digest) (i : ℕ) (d : Digest) → slice_get refs i ≡ Some d → text ++ refs_text (drop i refs) ≡ all → new ≡ text ++ named (codes " ") d
-    → new ++ refs_text (drop (suc i) refs) ≡ all
-refs-next text new all refs i d is left adds =
-    piece text new (named (codes " ") d) (refs_text (drop (suc i) refs)) all (subst (λ (ds : List Digest). text ++ refs_text ds ≡ all) (drop-at refs i d is) left) adds
 
 pub refs-done : (text all : List ℕ) (refs : List Digest) (i : ℕ) → length refs ≤ i → text ++ refs_text (drop i refs) ≡ all → text ≡ all
 refs-done text all refs i past left = done text (refs_text (drop i refs)) all left (ap refs_text (drop-all refs i past))
@@ -37,19 +30,3 @@ lines-next text one two new all session i lines replies line is left first secon
     piece text one (front_text session (suc i)) (line_text line replies ++ 10 ∷ rest) all (ap (λ (t : List ℕ). text ++ t) (sym (append_assoc (front_text session (suc i)) (line_text line replies) (10 ∷ rest))) ∙ whole) first in
     let at_second : two ++ (10 ∷ rest) ≡ all = piece one two (line_text line replies) (10 ∷ rest) all at_first second in
     piece two new (10 ∷ []) rest all at_second third
-
-pub lines-done : (text all : List ℕ) (session i : ℕ) (lines : List Line) (replies : List Reply) → length lines ≤ i → text ++ left_text session i lines replies ≡ all → text ≡ all
-lines-done text all session i lines replies past left =
-    done text (left_text session i lines replies) all left (ap (λ (ls : List Line). lines_text session (suc i) ls replies) (drop-all lines i past))
-
-pub sessions-next : (text new all : List ℕ) (i : ℕ) (sessions : List Session) (replies : List SessionReplies) (session : Session) (own : SessionReplies) → slice_get sessions i ≡ Some session
-    → slice_get replies i ≡ Some own → text ++ sessions_text i (drop i sessions) (drop i replies) ≡ all → new ≡ text ++ lines_text i 1 session.lines own.replies
-    → new ++ sessions_text (suc i) (drop (suc i) sessions) (drop (suc i) replies) ≡ all
-sessions-next text new all i sessions replies session own is its left adds =
-    piece text new (lines_text i 1 session.lines own.replies) (sessions_text (suc i) (drop (suc i) sessions) (drop (suc i) replies)) all
-    (subst (λ (rs : List SessionReplies). text ++ sessions_text i (session ∷ drop (suc i) sessions) rs ≡ all) (drop-at replies i own its)
-    (subst (λ (ss : List Session). text ++ sessions_text i ss (drop i replies) ≡ all) (drop-at sessions i session is) left)) adds
-
-pub sessions-done : (text all : List ℕ) (i : ℕ) (sessions : List Session) (replies : List SessionReplies) → length sessions ≤ i → text ++ sessions_text i (drop i sessions) (drop i replies) ≡ all → text ≡ all
-sessions-done text all i sessions replies past left =
-    done text (sessions_text i (drop i sessions) (drop i replies)) all left (ap (λ (ss : List Session). sessions_text i ss (drop i replies)) (drop-all sessions i past))

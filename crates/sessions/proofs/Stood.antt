@@ -231,9 +231,6 @@ cut-stands session call before a b (inr late) lines at speaks next stands =
 pub made-speaks : (session : ℕ) (call : Call) (before after : List Reply) (a b : View) (it : Said) → HasMade session call before a it after b → (n : ℕ) → a.speaks n ≡ true → b.speaks n ≡ true
 made-speaks session call before after a b it h n speaks = ap (λ (v : View). v.speaks n) h.answers.goes.is ∙ speaks
 
-pub made-upstream : (session : ℕ) (call : Call) (before after : List Reply) (a b : View) (it : Said) → HasMade session call before a it after b → b.upstream ≡ a.upstream
-made-upstream session call before after a b it h = ap (λ (v : View). v.upstream) h.answers.goes.is
-
 pub made-adds : (session : ℕ) (call : Call) (before after : List Reply) (a b : View) (it : Said) → HasMade session call before a it after b → AddsOfThese (λ n. n ≡ session) a b
 made-adds session call before after a b it h = goes-adds session (length before) a b h.answers.goes
 
@@ -301,11 +298,6 @@ pub store-line : (line : script.Line) (refs its : List Digest) (bytes those : Li
     → history_line line ≡ Once (Store (object_with refs bytes))
 store-line line refs its bytes those is one two =
     ap history_line is ∙ ap (λ (r : List Digest). Once (Store (object_with r those))) (sym one) ∙ ap (λ (b : List ℕ). Once (Store (object_with refs b))) (sym two)
-
-pub act-line : (line : script.Line) (key : Digest) (refs its : List Digest) (bytes those : List ℕ) → line ≡ lines.Act key its those → refs ≡ its → bytes ≡ those
-    → history_line line ≡ Action key (object_with refs bytes)
-act-line line key refs its bytes those is one two =
-    ap history_line is ∙ ap (λ (r : List Digest). Action key (object_with r those)) (sym one) ∙ ap (λ (b : List ℕ). Action key (object_with refs b)) (sym two)
 
 -- ---- how an action goes on
 

@@ -32,8 +32,8 @@ pub fn run_in_turn<P: CellPort, G: Gate>(
     requires upstream { (P.view port.old).upstream ≡ upstream_state (option_copied up) }
     requires fits { FitsScript script.now }
     requires unseen { AreUnseen (P.view port.old) (length script.now.sessions) }
-    ensures ok { IfOk result (λ replies. HaveRun script.now.sessions replies.sessions (P.view port.old) (P.view port.new)) }
-    ensures err { OnErr result (HaveStopped script.now.sessions (P.view port.old) (P.view port.new)) }
+    ensures ran { IfOk result (λ replies. HaveRun script.now.sessions replies.sessions (P.view port.old) (P.view port.new)) }
+    ensures memory { OnErr result (HaveStopped script.now.sessions (P.view port.old) (P.view port.new)) }
     ensures in_turn { AddsInTurn (P.view port.old) (P.view port.new) }
     ensures lawful { IsLawfulOrSame (P.view port.old) (P.view port.new) }
 {

@@ -1,6 +1,5 @@
 -- Calls where there is no upstream: what the calls over a port leave, as one call of a store.
-use Rattle.std.proofs.Common.{◌≡◌, ℕ, ◌+◌, ◌≤◌, Bool, false, not, inl, inr, [], IsTrue, IfOk, OnErr, Ok, Err, None, Some, is_none, is_some, refl, ap, sym, ◌∙◌, subst, arith}
-use Rattle.std.specs.declared.alloc.AllocError.{AllocError}
+use Rattle.std.proofs.Common.{◌≡◌, ℕ, ◌+◌, ◌≤◌, Bool, false, not, inl, inr, [], IsTrue, OnErr, Ok, Err, None, Some, is_none, is_some, refl, ap, sym, ◌∙◌, subst, arith}
 use Rattle.std.specs.declared.option.Option.{Option}
 use Rattle.std.specs.declared.result.Result.{Result}
 use Rattle.std.specs.FinMap as fin
@@ -16,8 +15,6 @@ use Rattle.cas_model.specs.State.{State, digest_cmp, empty_state, has}
 use Rattle.cas_history.specs.Cost.{asked, own_cost, IsWithinCost}
 use Rattle.cas_history.specs.History.{reply_where}
 use Rattle.cas_port.specs.View.{View}
-use Rattle.graph_db.specs.declared.error.StoreError.{StoreError}
-use Rattle.graph_db.specs.declared.error.StoreError.TheVariants.{Dangling, Full, Memory}
 use Rattle.graph_db.specs.Events.{Ends, Last, IsBrought}
 use Rattle.graph_db.specs.Events as graph
 use Rattle.cas_model.specs.Notes as notes
@@ -25,7 +22,7 @@ use Rattle.graph_db.specs.Stores as stores
 use Rattle.graph_db.specs.Loads as loads
 use Rattle.action_cache.specs.Puts as puts
 use Rattle.action_cache.specs.Gets as gets
-use Rattle.unified_cas.specs.Answers.{Answers, Stops, LoadStops, CostsAtMost, refusal_of}
+use Rattle.unified_cas.specs.Answers.{Answers, Stops, LoadStops, CostsAtMost}
 
 -- ---- the empty upstream
 
@@ -93,29 +90,6 @@ ended who call old new n most takes ends =
 pub stored : (who : Who) (o : Object) (old new : View) (d : Digest) → stores.HasStored who o old new d → Answers who (Store o) (reply.Stored d) old new
 stored who o old new d h = answers who (Store o) (reply.Stored d) old new _ (notes.own_note who) h.ends (omega arith) refl h.last
 
-pub store-refused : (who : Who) (o : Object) (old new : View) (i : ℕ) (d : Digest) → old.upstream ≡ empty_state → stores.IsDangling who o old new i d
-    → Answers who (Store o) (reply.Dangling i d) old new
-store-refused who o old new i d none h =
-    lacking who (Store o) (reply.Dangling i d) old new (has old.upstream d) (notes.ref_note who i) (has-none old.upstream d none) h.ends refl h.last
-
-pub store-full : (who : Who) (o : Object) (old new : View) (at asked size : ℕ) → stores.HasNoRoom who o old new at asked size → Answers who (Store o) (reply.Full at asked size) old new
-store-full who o old new at asked size h = answers who (Store o) (reply.Full at asked size) old new _ (notes.own_note who) h.ends (omega arith) refl h.last
-
-pub store-stops : (who : Who) (o : Object) (old new : View) → stores.IsRefused who o old new Memory → Stops who (Store o) old new
-store-stops who o old new h = stops who (Store o) old new _ (omega arith) h
-
-pub store-answered : (who : Who) (o : Object) (old new : View) (error : StoreError) (result : Result Reply AllocError) → old.upstream ≡ empty_state → stores.IsRefused who o old new error
-    → result ≡ refusal_of error → IfOk result (λ given. Answers who (Store o) given old new)
-store-answered who o old new (Dangling i d) result none h is = rw is (store-refused who o old new i d none h)
-store-answered who o old new (Full full) result none h is = rw is (store-full who o old new full.at full.asked full.size h)
-store-answered who o old new Memory result none h is = rw is tt
-
-pub store-stopped : (who : Who) (o : Object) (old new : View) (error : StoreError) (result : Result Reply AllocError) → stores.IsRefused who o old new error → result ≡ refusal_of error
-    → OnErr result (Stops who (Store o) old new)
-store-stopped who o old new (Dangling i d) result h is = rw is tt
-store-stopped who o old new (Full full) result h is = rw is tt
-store-stopped who o old new Memory result h is = rw is (store-stops who o old new h)
-
 pub found : (who : Who) (d : Digest) (o : Object) (old new : View) → loads.HasFound who d old new o → Answers who (Load d) (reply.Found o) old new
 found who d o old new h = answers who (Load d) (reply.Found o) old new 0 (notes.own_note who) h.ends (omega arith) refl h.last
 
@@ -136,23 +110,8 @@ put-refused who k v old new i d none h =
     (subst (λ w. Answers who (Put k v) (reply.Dangling 0 w) old new) (sym h.is)
     (lacking who (Put k v) (reply.Dangling 0 v) old new (has old.upstream v) (notes.ref_note who 0) (has-none old.upstream v none) h.ends refl h.last))
 
-pub put-full : (who : Who) (k v : Digest) (old new : View) (at asked size : ℕ) → puts.HasNoRoom who k v old new at asked size → Answers who (Put k v) (reply.Full at asked size) old new
-put-full who k v old new at asked size h = answers who (Put k v) (reply.Full at asked size) old new _ (notes.key_note who) h.ends (omega arith) refl h.last
-
 pub put-stops : (who : Who) (k v : Digest) (old new : View) → puts.PutStops who k v old new → Stops who (Put k v) old new
 put-stops who k v old new h = ended who (Put k v) old new 997 (omega arith) h.takes h.ends
-
-pub put-answered : (who : Who) (k v : Digest) (old new : View) (error : StoreError) (result : Result Reply AllocError) → old.upstream ≡ empty_state → puts.IsRefused who k v old new error
-    → result ≡ refusal_of error → IfOk result (λ given. Answers who (Put k v) given old new)
-put-answered who k v old new (Dangling i d) result none h is = rw is (put-refused who k v old new i d none h)
-put-answered who k v old new (Full full) result none h is = rw is (put-full who k v old new full.at full.asked full.size h)
-put-answered who k v old new Memory result none h is = rw is tt
-
-pub put-stopped : (who : Who) (k v : Digest) (old new : View) (error : StoreError) (result : Result Reply AllocError) → puts.IsRefused who k v old new error → result ≡ refusal_of error
-    → OnErr result (Stops who (Put k v) old new)
-put-stopped who k v old new (Dangling i d) result h is = rw is tt
-put-stopped who k v old new (Full full) result h is = rw is tt
-put-stopped who k v old new Memory result h is = rw is (put-stops who k v old new h)
 
 pub hit : (who : Who) (k v : Digest) (old new : View) → gets.HasHit who k old new v → Answers who (Get k) (reply.Hit v) old new
 hit who k v old new h = answers who (Get k) (reply.Hit v) old new 0 (notes.key_note who) h.ends (omega arith) refl h.last

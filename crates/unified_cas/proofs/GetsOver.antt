@@ -9,7 +9,6 @@ use Rattle.cas_model.specs.declared.call.Reply.TheVariants as reply
 use Rattle.cas_model.specs.declared.call.Who.{Who}
 use Rattle.cas_model.specs.declared.digest.Digest.{Digest}
 use Rattle.cas_model.specs.declared.note.Stage.TheVariants.{Deep}
-use Rattle.cas_model.specs.Primary.{primary}
 use Rattle.cas_model.specs.State.{State, has}
 use Rattle.cas_model.specs.Tables.{Tables}
 use Rattle.cas_history.specs.declared.event.Act.{Act}
@@ -147,9 +146,6 @@ module _ (who : Who) (key value : Digest) (t : State) (old mid : View) (upstream
   module _ (new : View) (tree : HasTreeIn who value mid new) where
     brought : IsUnderWay who (Get key) old new
     brought = tree.goes_on old (Get key) root (missed-key mid.start who mid.seen h.missed) under-get
-
-    pub given-then : fin.get new.upstream.cache key ≡ Some value
-    given-then = ap (λ (u : State). fin.get u.cache key) (goes-upstream who mid new tree.goes) ∙ given-mid
 
     pub get-brings : (last : View) (kept : Digest) → HasBrought who key new last kept → Answers who (Get key) (reply.Hit kept) old last
     get-brings last kept b = brought-answers who (Get key) key old new last brought (omega arith) ((refl, refl), tt) kept (reply.Hit kept) refl b

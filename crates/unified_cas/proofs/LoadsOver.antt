@@ -8,9 +8,7 @@ use Rattle.cas_model.specs.declared.call.Reply.TheVariants as reply
 use Rattle.cas_model.specs.declared.call.Who.{Who}
 use Rattle.cas_model.specs.declared.digest.Digest.{Digest}
 use Rattle.cas_model.specs.declared.object.Object.{Object}
-use Rattle.cas_model.specs.Primary.{primary}
 use Rattle.cas_model.specs.State.{State, has}
-use Rattle.cas_model.specs.Tables.{Tables}
 use Rattle.cas_history.specs.Conduct.{is_shallow, missed}
 use Rattle.cas_history.specs.History.{reply_where}
 use Rattle.cas_port.specs.Calls.{IsLawful}

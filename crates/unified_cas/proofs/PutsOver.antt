@@ -9,9 +9,7 @@ use Rattle.cas_model.specs.declared.call.Reply.TheVariants as reply
 use Rattle.cas_model.specs.declared.call.Who.{Who}
 use Rattle.cas_model.specs.declared.digest.Digest.{Digest}
 use Rattle.cas_model.specs.declared.note.Stage.TheVariants.{Key}
-use Rattle.cas_model.specs.Primary.{primary}
 use Rattle.cas_model.specs.State.{State, has}
-use Rattle.cas_model.specs.Tables.{Tables}
 use Rattle.cas_history.specs.Conduct.{AreThere, IsValue, is_shallow, missed}
 use Rattle.cas_history.specs.History.{decided, decided_at, kept, reply_where}
 use Rattle.cas_history.specs.Run.{tables as tables_after}

@@ -1,5 +1,5 @@
 -- A call that needs no change over the start of a run needs none over what was seen since.
-use Rattle.std.proofs.Common.{◌≡◌, [], ◌∷◌, List, inl, inr, ◌⊎◌, None, Some, ap, sym, ◌∙◌}
+use Rattle.std.proofs.Common.{◌≡◌, [], ◌∷◌, List, inl, inr, ◌⊎◌, Some, sym, ◌∙◌}
 use Rattle.std.specs.FinMap as fin
 use Rattle.cas_model.specs.declared.call.Call.{Call}
 use Rattle.cas_model.specs.declared.call.Call.TheVariants.{Store, Load, Put, Get}

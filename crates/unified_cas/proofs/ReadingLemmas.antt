@@ -1,9 +1,9 @@
 -- Calls that have only looked and read.
-use Rattle.std.proofs.Common.{◌≡◌, ℕ, List, Bool, true, false, None, Some, is_some, ap, Ok, Err, IfOk, IfErr, inl, inr, sym, ◌∙◌}
+use Rattle.std.proofs.Common.{◌≡◌, ℕ, List, Bool, true, false, Some, is_some, ap, Ok, Err, IfOk, IfErr, inr, ◌∙◌}
 use Rattle.std.specs.declared.result.Result.{Result}
 use Rattle.std.specs.FinMap as fin
 use Rattle.cas_model.specs.declared.call.Call.{Call}
-use Rattle.cas_model.specs.declared.call.Call.TheVariants.{Store, Load, Put, Get}
+use Rattle.cas_model.specs.declared.call.Call.TheVariants.{Store, Put}
 use Rattle.cas_model.specs.declared.call.Reply.{Reply}
 use Rattle.cas_model.specs.declared.call.Reply.TheVariants as reply
 use Rattle.cas_model.specs.declared.call.Who.{Who}
@@ -12,9 +12,8 @@ use Rattle.cas_model.specs.declared.object.Object.{Object}
 use Rattle.cas_model.specs.Notes.{own_note}
 use Rattle.cas_model.specs.Object.{digest_of, object_digest}
 use Rattle.cas_model.specs.State.{State, HasAll, has}
-use Rattle.cas_model.proofs.Maps.{get-value}
 use Rattle.cas_history.proofs.Sound.{sound-run}
-use Rattle.cas_history.proofs.Under.{closed, kept-none}
+use Rattle.cas_history.proofs.Under.{closed}
 use Rattle.cas_port.specs.Calls.{IsLawful}
 use Rattle.cas_port.specs.View.{View, tables}
 use Rattle.fault_in.specs.declared.error.FaultInError.{FaultInError}

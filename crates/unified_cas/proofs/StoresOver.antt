@@ -11,7 +11,6 @@ use Rattle.cas_model.specs.declared.digest.Digest.{Digest}
 use Rattle.cas_model.specs.declared.object.Object.{Object}
 use Rattle.cas_model.specs.declared.place.Space.TheVariants.{Objects}
 use Rattle.cas_model.specs.Object.{digest_of}
-use Rattle.cas_model.specs.Primary.{primary}
 use Rattle.cas_model.specs.State.{State, HasAll, has}
 use Rattle.cas_model.specs.Tables.{Tables}
 use Rattle.cas_history.specs.declared.event.Act.TheVariants.{Look}
@@ -40,7 +39,7 @@ use Rattle.graph_db.specs.Storing.{IsLawfulOrSame}
 use Rattle.graph_db.specs.Stores.{HasStored, IsRefused, object_with}
 use Rattle.cas_model.specs.Notes.{own_note, ref_note}
 use Rattle.graph_db.proofs.Found.{found-here, lawful-same-then, length-taken, missed-here, seek-stops, sought-ends, sought-last}
-use Rattle.graph_db.proofs.Steps.{ends-self, ends-then, goes-self, goes-speaks, goes-then, goes-upstream, reads-goes, reads-self, reads-then, stops-more, then-stops}
+use Rattle.graph_db.proofs.Steps.{ends-then, goes-speaks, goes-then, goes-upstream, reads-goes, reads-then, stops-more, then-stops}
 use Rattle.unified_cas.specs.Answers.{Answers}
 use Rattle.unified_cas.specs.Over.{AnswersKnown, BringsRefs, EndsEarly, FindStops, HasRefsIn, IsAbsent, IsUnderWay, KnownEndsEarly, Misses, RefsStop, SeeksRefs, SettleStops, SettlesRefs, misses_of, stored_as}
 use Rattle.unified_cas.specs.Upstream.{AreVisible, IsLacking}
@@ -78,16 +77,6 @@ there-append up start seen who k n [] d is h there =
 there-append up start seen who k n (x ∷ xs) d is h there = (h.0, there-append up start seen who (suc k) n xs d (omega (arith, is)) h.1 there)
 
 -- ---- looking for the references
-
-pub seeks-none : (who : Who) (all : List Digest) (a : View) → SeeksRefs who all [] false a a
-seeks-none who all a = record {
-  lawful = inl refl;
-  reads = reads-self who a;
-  ends = λ bytes. ends-self who (Store (object_with all bytes)) a 0;
-  there = tt;
-  visible = tt;
-  misses = tt;
-}
 
 module _ (who : Who) (all : List Digest) (i : ℕ) (d : Digest) (lacking : Bool) (t : State) (old mid new : View) (at : slice_get all i ≡ Some d) (upstream : old.upstream ≡ t)
     (first : SeeksRefs who all (take i all) lacking old mid) (lawful : IsLawful mid new) where
@@ -170,9 +159,6 @@ module _ (who : Who) (all : List Digest) (i : ℕ) (d : Digest) (lacking : Bool)
   }
 
 -- ---- bringing in the references
-
-pub brings-none : (who : Who) (all : List Digest) (a : View) → BringsRefs who all [] a a
-brings-none who all a = record { lawful = inl refl; goes = goes-self who a; there = tt; goes_on = λ first bytes way. way }
 
 module _ (who : Who) (all : List Digest) (i : ℕ) (d : Digest) (old mid : View) (at : slice_get all i ≡ Some d) (way : BringsRefs who all (take i all) old mid)
     (before : missed old.start who is_shallow old.seen ≡ true) where

@@ -15,19 +15,16 @@ use Rattle.cas_model.specs.declared.note.Stage.{Stage}
 use Rattle.cas_model.specs.declared.note.Stage.TheVariants.{Ref, Own, Key, Deep}
 use Rattle.cas_model.specs.declared.object.Object.{Object}
 use Rattle.cas_model.specs.declared.place.Place.{Place}
-use Rattle.cas_model.specs.declared.place.Space.TheVariants.{Objects, Actions}
-use Rattle.cas_model.specs.Primary.{cell_under, primary, value_under}
+use Rattle.cas_model.specs.declared.place.Space.TheVariants.{Objects}
+use Rattle.cas_model.specs.Primary.{cell_under, primary}
 use Rattle.cas_model.specs.State.{State, HasAll, has}
 use Rattle.cas_model.specs.Tables.{Tables}
-use Rattle.cas_model.proofs.Maps.{get-value}
 use Rattle.cas_history.specs.declared.event.Event.{Event}
-use Rattle.cas_history.specs.Conduct.{AreThere, CallOpen, is_key, is_own, is_ref, is_shallow, missed, same_who}
+use Rattle.cas_history.specs.Conduct.{AreThere, CallOpen, is_key, is_own, is_shallow, missed, same_who}
 use Rattle.cas_history.specs.Cost.{AreOfTree, Row, asked, own_cost, rows_cost}
 use Rattle.cas_history.specs.History.{is_miss}
 use Rattle.cas_history.specs.Run.{tables as tables_after}
-use Rattle.cas_history.proofs.Grown.{Grows}
-use Rattle.cas_history.proofs.Sound.{IsSound, sound-run}
-use Rattle.cas_history.proofs.Under.{IsKept, kept-cases, kept-none, value-stays}
+use Rattle.cas_history.proofs.Sound.{sound-run}
 use Rattle.cas_history.proofs.Visible.{has-stays}
 use Rattle.cas_port.specs.declared.block.OpenBlock.{OpenBlock}
 use Rattle.cas_port.specs.Calls.{IsLawful}
@@ -49,7 +46,6 @@ use Rattle.graph_db.proofs.Sought.{there-more}
 use Rattle.graph_db.proofs.Steps.{goes-opened, goes-self, goes-speaks, goes-takes, goes-then, goes-upstream, missed-more}
 use Rattle.unified_cas.specs.Answers.{Answers, CostsAtMost, Stops}
 use Rattle.unified_cas.specs.Over.{EndsEarly, IsUnderWay, answer_of}
-use Rattle.unified_cas.specs.Reading.{ReadsAlone}
 use Rattle.unified_cas.specs.Upstream.{AreVisible, HadToBring, HasToBring, IsLacking, NeedsTree}
 
 -- ---- what stays
@@ -139,20 +135,11 @@ key-shallow Own h = refl
 key-shallow Key h = refl
 key-shallow Deep h = h
 
-ref-shallow : (i : ℕ) (stage : Stage) → is_ref i stage ≡ true → is_shallow stage ≡ true
-ref-shallow i (Ref j) h = refl
-ref-shallow i Own h = refl
-ref-shallow i Key h = refl
-ref-shallow i Deep h = h
-
 pub missed-own : (start : Tables) (who : Who) (seen : List Event) → missed start who is_own seen ≡ true → missed start who is_shallow seen ≡ true
 missed-own start who seen h = missed-wider start who is_own is_shallow seen own-shallow h
 
 pub missed-key : (start : Tables) (who : Who) (seen : List Event) → missed start who is_key seen ≡ true → missed start who is_shallow seen ≡ true
 missed-key start who seen h = missed-wider start who is_key is_shallow seen key-shallow h
-
-pub missed-ref : (start : Tables) (who : Who) (i : ℕ) (seen : List Event) → missed start who (is_ref i) seen ≡ true → missed start who is_shallow seen ≡ true
-missed-ref start who i seen h = missed-wider start who (is_ref i) is_shallow seen (ref-shallow i) h
 
 -- ---- what is missing
 
@@ -339,16 +326,3 @@ pub answered-err : (who : Who) (call : Call) (old new : View) (end : Result Repl
 answered-err who call old new (Ok given) result err is = rw is tt
 answered-err who call old new (Err (fault.Full full)) result err is = rw is tt
 answered-err who call old new (Err fault.Memory) result err is = rw is err
-
--- a refused claim is the answer of no call that needs no change
-full-reads : (who : Who) (call : Call) (old new : View) (at words size : ℕ) → ReadsAlone who call (reply.Full at words size) old new
-full-reads who (Store o) old new at words size = λ quiet. absurd quiet
-full-reads who (Load d) old new at words size = λ quiet. absurd quiet
-full-reads who (Put k v) old new at words size = λ quiet. absurd quiet
-full-reads who (Get k) old new at words size = λ quiet. absurd quiet
-
-pub answered-reads : (who : Who) (call : Call) (old new : View) (end : Result Reply FaultInError) (result : Result Reply AllocError) → IfOk end (λ given. ReadsAlone who call given old new)
-    → result ≡ answer_of end → IfOk result (λ given. ReadsAlone who call given old new)
-answered-reads who call old new (Ok given) result ok is = rw is ok
-answered-reads who call old new (Err (fault.Full full)) result ok is = rw is (full-reads who call old new full.at full.asked full.size)
-answered-reads who call old new (Err fault.Memory) result ok is = rw is tt

@@ -1,8 +1,6 @@
 -- What one call of a store adds to what its port has seen, and its reply.
-use Rattle.std.specs.Prelude.{◌≡◌, ℕ, ◌+◌, ◌≤◌, ◌⊎◌, List, ◌++◌, IsTrue, Ok, Err, Some, alloc_error}
-use Rattle.std.specs.declared.alloc.AllocError.{AllocError}
+use Rattle.std.specs.Prelude.{◌≡◌, ℕ, ◌+◌, ◌≤◌, ◌⊎◌, List, ◌++◌, IsTrue, Some}
 use Rattle.std.specs.declared.option.Option.{Option}
-use Rattle.std.specs.declared.result.Result.{Result}
 use Rattle.cas_model.specs.declared.call.Call.{Call}
 use Rattle.cas_model.specs.declared.call.Call.TheVariants.{Load}
 use Rattle.cas_model.specs.declared.call.Reply.{Reply}
@@ -15,8 +13,6 @@ use Rattle.cas_history.specs.Conduct.{CallOpen}
 use Rattle.cas_history.specs.Cost.{asked, IsWithinCost}
 use Rattle.cas_port.specs.declared.block.OpenBlock.{OpenBlock}
 use Rattle.cas_port.specs.View.{View}
-use Rattle.graph_db.specs.declared.error.StoreError.{StoreError}
-use Rattle.graph_db.specs.declared.error.StoreError.TheVariants.{Dangling, Full, Memory}
 use Rattle.graph_db.specs.Events.{CallDecided, Goes, Last}
 use Rattle.unified_cas.specs.Upstream.{HadToBring, NeedsTree}
 
@@ -51,9 +47,3 @@ pub record Stops (who : Who) (call : Call) (old new : View) : Type 0 where
 -- memory was wanted; or there was none for the object, after its load was decided
 abbrev pub LoadStops : Who → Digest → View → View → Type 0
 LoadStops who digest old new = Stops who (Load digest) old new ⊎ ((o : Object) × Answers who (Load digest) (reply.Found o) old new)
-
--- a refusal as a reply, and want of memory as an error
-abbrev pub refusal_of : StoreError → Result Reply AllocError
-refusal_of (Dangling i digest) = Ok (reply.Dangling i digest)
-refusal_of (Full full) = Ok (reply.Full full.at full.asked full.size)
-refusal_of Memory = Err alloc_error

@@ -1,4 +1,4 @@
-// The four calls of a store, over any port.
+// The four calls of a store, over any port, with an upstream or without.
 ghost use Rattle.std.specs.Prelude.{◌≡◌, ◌≤◌, length, IfOk, OnErr, option_copied};
 ghost use Rattle.cas_model.specs.declared.call.Call.TheVariants.{Store, Load, Put, Get};
 ghost use Rattle.cas_port.specs.Calls.{IsLawful};
@@ -33,9 +33,8 @@ use std::alloc::{AllocError, Global};
 /// absent, at a load of an object that is absent, and at a store one of whose references is absent, or whose references
 /// are all in the primary while the upstream lacks its object.
 ///
-/// A call that finds something absent only looks and reads, and so leaves the primary as it was. So does a load or a get
-/// of what the primary had before. A put of a key, or a store of an object, that the primary had before only looks and
-/// reads too, or adds no more than one put or store into the primary alone.
+/// A call that finds something absent only looks and reads, and so leaves the primary as it was. So does a load, a get, a
+/// put or a store of what the primary had before.
 #[derive(Clone, Copy)]
 pub struct Unified<'u> {
     /// The generation before the primary.
@@ -56,8 +55,8 @@ impl Unified<'_> {
         requires speaks { SpeaksFor (P.view port.old) who }
         requires few_refs { length refs.now ≤ 65535 }
         requires short { length «data».now ≤ 16777215 }
-        ensures ok { IfOk result (λ reply. Answers who (Store (object_with refs.now «data».now)) reply (P.view port.old) (P.view port.new)) }
-        ensures err { OnErr result (Stops who (Store (object_with refs.now «data».now)) (P.view port.old) (P.view port.new)) }
+        ensures answered { IfOk result (λ reply. Answers who (Store (object_with refs.now «data».now)) reply (P.view port.old) (P.view port.new)) }
+        ensures memory { OnErr result (Stops who (Store (object_with refs.now «data».now)) (P.view port.old) (P.view port.new)) }
         ensures reads { IfOk result (λ reply. ReadsAlone who (Store (object_with refs.now «data».now)) reply (P.view port.old) (P.view port.new)) }
         ensures lawful { IsLawful (P.view port.old) (P.view port.new) }
     {
@@ -74,8 +73,8 @@ impl Unified<'_> {
     ) -> Result<Reply, AllocError>
         requires upstream { (P.view port.old).upstream ≡ upstream_state (option_copied self.now.up) }
         requires speaks { SpeaksFor (P.view port.old) who }
-        ensures ok { IfOk result (λ reply. Answers who (Load digest.now) reply (P.view port.old) (P.view port.new)) }
-        ensures err { OnErr result (LoadStops who digest.now (P.view port.old) (P.view port.new)) }
+        ensures answered { IfOk result (λ reply. Answers who (Load digest.now) reply (P.view port.old) (P.view port.new)) }
+        ensures memory { OnErr result (LoadStops who digest.now (P.view port.old) (P.view port.new)) }
         ensures reads { IfOk result (λ reply. ReadsAlone who (Load digest.now) reply (P.view port.old) (P.view port.new)) }
         ensures lawful { IsLawful (P.view port.old) (P.view port.new) }
     {
@@ -93,8 +92,8 @@ impl Unified<'_> {
     ) -> Result<Reply, AllocError>
         requires upstream { (P.view port.old).upstream ≡ upstream_state (option_copied self.now.up) }
         requires speaks { SpeaksFor (P.view port.old) who }
-        ensures ok { IfOk result (λ reply. Answers who (Put key.now value.now) reply (P.view port.old) (P.view port.new)) }
-        ensures err { OnErr result (Stops who (Put key.now value.now) (P.view port.old) (P.view port.new)) }
+        ensures answered { IfOk result (λ reply. Answers who (Put key.now value.now) reply (P.view port.old) (P.view port.new)) }
+        ensures memory { OnErr result (Stops who (Put key.now value.now) (P.view port.old) (P.view port.new)) }
         ensures reads { IfOk result (λ reply. ReadsAlone who (Put key.now value.now) reply (P.view port.old) (P.view port.new)) }
         ensures lawful { IsLawful (P.view port.old) (P.view port.new) }
     {
@@ -111,8 +110,8 @@ impl Unified<'_> {
     ) -> Result<Reply, AllocError>
         requires upstream { (P.view port.old).upstream ≡ upstream_state (option_copied self.now.up) }
         requires speaks { SpeaksFor (P.view port.old) who }
-        ensures ok { IfOk result (λ reply. Answers who (Get key.now) reply (P.view port.old) (P.view port.new)) }
-        ensures err { OnErr result (Stops who (Get key.now) (P.view port.old) (P.view port.new)) }
+        ensures answered { IfOk result (λ reply. Answers who (Get key.now) reply (P.view port.old) (P.view port.new)) }
+        ensures memory { OnErr result (Stops who (Get key.now) (P.view port.old) (P.view port.new)) }
         ensures reads { IfOk result (λ reply. ReadsAlone who (Get key.now) reply (P.view port.old) (P.view port.new)) }
         ensures lawful { IsLawful (P.view port.old) (P.view port.new) }
     {

@@ -6,8 +6,8 @@ use Rattle.cas_command.proofs.input.read_blocks.Given as goal
 abbrev pub invariant-loop-all : goal.invariant-loop-all
 invariant-loop-all g l = record {
   fits : vec_len l.all ≤ l.most + 1;
-  took : Consumes (g.S.Source.left l.fn.source) (g.S.Source.left l.source) l.all.items;
-  later : g.S.Source.faults l.fn.source ≤ g.S.Source.faults l.source;
+  took : Consumes (g.S.Source.view l.fn.source).left (g.S.Source.view l.source).left l.all.items;
+  later : (g.S.Source.view l.fn.source).faults ≤ (g.S.Source.view l.source).faults;
 }
 
 abbrev pub decreases-loop-all : goal.decreases-loop-all

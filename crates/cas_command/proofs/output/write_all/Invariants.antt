@@ -6,8 +6,8 @@ use Rattle.cas_command.proofs.output.write_all.Given as goal
 abbrev pub invariant-loop-at : goal.invariant-loop-at
 invariant-loop-at g l = record {
   within : l.at ≤ length l.bytes;
-  wrote : Appends (g.W.Sink.held l.fn.sink) (g.W.Sink.held l.sink) (take l.at l.bytes);
-  later : g.W.Sink.faults l.fn.sink ≤ g.W.Sink.faults l.sink;
+  wrote : Appends (g.W.Sink.view l.fn.sink).held (g.W.Sink.view l.sink).held (take l.at l.bytes);
+  later : (g.W.Sink.view l.fn.sink).faults ≤ (g.W.Sink.view l.sink).faults;
 }
 
 abbrev pub decreases-loop-at : goal.decreases-loop-at

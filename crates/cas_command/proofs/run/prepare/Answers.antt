@@ -1,7 +1,7 @@
 -- what the words asked for, and how far it came
 use Rattle.std.proofs.Common.{refl}
 use Rattle.command_line.specs.declared.command.Task.TheVariants.{Validate, Prune}
-use Rattle.cas_command.specs.Run.{Ask, outside_with}
+use Rattle.cas_command.specs.Run.{Ask, outside_of}
 use Rattle.cas_command.proofs.RunLemmas.{dir-named, has-dir, one-call, size-within, task-prepares, task-refuses, upkeep-prepares, upkeep-refuses, work-stops}
 use Rattle.cas_command.proofs.run.prepare.Goals as goal
 
@@ -10,7 +10,7 @@ returns-in-Validate-clause-ok g c =
     let long = has-dir c.args.words.now _ _ c.in-Ok.ensures.have.names.begin in
     let ask : Ask c.args.words.now c.in-Ok.request c.index-words-1.result = record { reads = c.in-Ok.ensures; names = dir-named c.args.words.now c.index-words-1.result _ long c.index-words-1.is } in
     upkeep-prepares c.args.words.now c.in-Ok.request c.index-words-1.result c.as_str-dir.result.now ask c.as_str-dir.ensures.value Validate
-    (outside_with (g.S.Source.left c.args.source.now) (g.S.Source.faults c.args.source.now) (g.F.Folder.view c.args.folder.now)) _ _ c.validate.result c.in-Validate.is c.none-in-Validate.ensures
+    (outside_of (g.S.Source.view c.args.source.now) (g.F.Folder.view c.args.folder.now)) _ _ c.validate.result c.in-Validate.is c.none-in-Validate.ensures
     c.validate.ensures.ok
 
 pub returns-in-Validate-clause-err : goal.returns-in-Validate-clause-err
@@ -18,7 +18,7 @@ returns-in-Validate-clause-err g c =
     let long = has-dir c.args.words.now _ _ c.in-Ok.ensures.have.names.begin in
     let ask : Ask c.args.words.now c.in-Ok.request c.index-words-1.result = record { reads = c.in-Ok.ensures; names = dir-named c.args.words.now c.index-words-1.result _ long c.index-words-1.is } in
     upkeep-refuses c.args.words.now c.in-Ok.request c.index-words-1.result c.as_str-dir.result.now ask c.as_str-dir.ensures.value Validate
-    (outside_with (g.S.Source.left c.args.source.now) (g.S.Source.faults c.args.source.now) (g.F.Folder.view c.args.folder.now)) _ _ c.validate.result c.in-Validate.is c.none-in-Validate.ensures
+    (outside_of (g.S.Source.view c.args.source.now) (g.F.Folder.view c.args.folder.now)) _ _ c.validate.result c.in-Validate.is c.none-in-Validate.ensures
     c.validate.ensures.err
 
 pub returns-in-Prune-clause-ok : goal.returns-in-Prune-clause-ok
@@ -26,7 +26,7 @@ returns-in-Prune-clause-ok g c =
     let long = has-dir c.args.words.now _ _ c.in-Ok.ensures.have.names.begin in
     let ask : Ask c.args.words.now c.in-Ok.request c.index-words-1.result = record { reads = c.in-Ok.ensures; names = dir-named c.args.words.now c.index-words-1.result _ long c.index-words-1.is } in
     upkeep-prepares c.args.words.now c.in-Ok.request c.index-words-1.result c.as_str-dir.result.now ask c.as_str-dir.ensures.value Prune
-    (outside_with (g.S.Source.left c.args.source.now) (g.S.Source.faults c.args.source.now) (g.F.Folder.view c.args.folder.now)) _ _ c.prune_text.result c.in-Prune.is c.none-in-Prune.ensures
+    (outside_of (g.S.Source.view c.args.source.now) (g.F.Folder.view c.args.folder.now)) _ _ c.prune_text.result c.in-Prune.is c.none-in-Prune.ensures
     c.prune_text.ensures.ok
 
 pub returns-in-Prune-clause-err : goal.returns-in-Prune-clause-err
@@ -34,7 +34,7 @@ returns-in-Prune-clause-err g c =
     let long = has-dir c.args.words.now _ _ c.in-Ok.ensures.have.names.begin in
     let ask : Ask c.args.words.now c.in-Ok.request c.index-words-1.result = record { reads = c.in-Ok.ensures; names = dir-named c.args.words.now c.index-words-1.result _ long c.index-words-1.is } in
     upkeep-refuses c.args.words.now c.in-Ok.request c.index-words-1.result c.as_str-dir.result.now ask c.as_str-dir.ensures.value Prune
-    (outside_with (g.S.Source.left c.args.source.now) (g.S.Source.faults c.args.source.now) (g.F.Folder.view c.args.folder.now)) _ _ c.prune_text.result c.in-Prune.is c.none-in-Prune.ensures
+    (outside_of (g.S.Source.view c.args.source.now) (g.F.Folder.view c.args.folder.now)) _ _ c.prune_text.result c.in-Prune.is c.none-in-Prune.ensures
     c.prune_text.ensures.err
 
 pub run_in_folder-requires : goal.run_in_folder-requires

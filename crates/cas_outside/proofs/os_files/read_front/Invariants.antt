@@ -6,7 +6,7 @@ use Rattle.cas_outside.proofs.os_files.read_front.Given as goal
 abbrev pub invariant-loop-front : goal.invariant-loop-front
 invariant-loop-front g l = record {
   fits : vec_len l.front ≤ l.most;
-  took : Consumes (g.S.Source.left l.fn.source) (g.S.Source.left l.source) l.front.items;
+  took : Consumes (g.S.Source.view l.fn.source).left (g.S.Source.view l.source).left l.front.items;
 }
 
 abbrev pub decreases-loop-front : goal.decreases-loop-front

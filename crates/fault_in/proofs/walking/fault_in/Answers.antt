@@ -13,11 +13,11 @@ pub returns-in_err-bring_missing-clause-lacks : goal.returns-in_err-bring_missin
 returns-in_err-bring_missing-clause-lacks g c =
     error-answer _ _ _ (up-has c.args.up.now c.args.digest.now _ c.seen.ensures c.content_place.ensures (some-told _ _ c.is_none.ensures c.if-is_none.false)) c.from_residual.ensures.1
 
-pub returns-in_err-bring_missing-clause-err : goal.returns-in_err-bring_missing-clause-err
-returns-in_err-bring_missing-clause-err g c = err-made _ _ _ c.from_residual.ensures.1 (stops-now c.args.who c.args.digest.now _ _ _ c.requires.speaks c.in_err-bring_missing.ensures.err)
+pub returns-in_err-bring_missing-clause-stopped : goal.returns-in_err-bring_missing-clause-stopped
+returns-in_err-bring_missing-clause-stopped g c = err-made _ _ _ c.from_residual.ensures.1 (stops-now c.args.who c.args.digest.now _ _ _ c.requires.speaks c.in_err-bring_missing.ensures.err)
 
 pub returns-clause-lacks : goal.returns-clause-lacks
 returns-clause-lacks g c = other-answer _ (Ok true) (up-has c.args.up.now c.args.digest.now _ c.seen.ensures c.content_place.ensures (some-told _ _ c.is_none.ensures c.if-is_none.false)) (λ same. cc)
 
-pub returns-clause-ok : goal.returns-clause-ok
-returns-clause-ok g c = whole-now c.args.who c.args.digest.now _ _ c.requires.speaks c.in_ok-bring_missing.ensures.lawful.is c.in_ok-bring_missing.ensures.ok
+pub returns-clause-brought : goal.returns-clause-brought
+returns-clause-brought g c = whole-now c.args.who c.args.digest.now _ _ c.requires.speaks c.in_ok-bring_missing.ensures.lawful.is c.in_ok-bring_missing.ensures.ok

@@ -21,8 +21,8 @@ pub run_session-requires-clause-unseen : goal.run_session-requires-clause-unseen
 run_session-requires-clause-unseen g c =
     next-unseen _ _ _ _ _ _ c.requires.unseen c.loop-number.invariant.turned (item-at _ _ _ _ c.list-session-items.ensures c.loop-number-test.true c.session-item.is)
 
-pub returns-in_err-run_session-clause-err : goal.returns-in_err-run_session-clause-err
-returns-in_err-run_session-clause-err g c =
+pub returns-in_err-run_session-clause-memory : goal.returns-in_err-run_session-clause-memory
+returns-in_err-run_session-clause-memory g c =
     ends-on _ (turned-stops _ _ _ _ _ _ _ c.requires.unseen c.loop-number.invariant.turned (item-at _ _ _ _ c.list-session-items.ensures c.loop-number-test.true c.session-item.is) c.in_err-run_session.ensures.err)
 
 pub returns-in_err-run_session-clause-in_turn : goal.returns-in_err-run_session-clause-in_turn
@@ -32,8 +32,8 @@ returns-in_err-run_session-clause-in_turn g c =
 pub returns-in_err-run_session-clause-lawful : goal.returns-in_err-run_session-clause-lawful
 returns-in_err-run_session-clause-lawful g c = same-on _ _ _ c.loop-number.invariant.lawful c.run_session.ensures.lawful
 
-pub returns-in_err-push-clause-err : goal.returns-in_err-push-clause-err
-returns-in_err-push-clause-err g c =
+pub returns-in_err-push-clause-memory : goal.returns-in_err-push-clause-memory
+returns-in_err-push-clause-memory g c =
     ends-on _ (unkept-stops _ _ _ _ _ _ _ _ c.requires.unseen c.loop-number.invariant.turned (item-at _ _ _ _ c.list-session-items.ensures c.loop-number-test.true c.session-item.is) c.in_ok-run_session.ensures.ok)
 
 pub returns-in_err-push-clause-in_turn : goal.returns-in_err-push-clause-in_turn
@@ -51,8 +51,8 @@ loop-number-preserved g c = record {
   lawful = same-on _ _ _ c.loop-number.invariant.lawful c.run_session.ensures.lawful;
 }
 
-pub returns-clause-ok : goal.returns-clause-ok
-returns-clause-ok g c = rw c.from_vec.ensures (turned-end _ _ _ _ _ _ c.list-session-items.ensures c.loop-number.auto.number-end c.loop-number-test.false c.loop-number.invariant.turned)
+pub returns-clause-ran : goal.returns-clause-ran
+returns-clause-ran g c = rw c.from_vec.ensures (turned-end _ _ _ _ _ _ c.list-session-items.ensures c.loop-number.auto.number-end c.loop-number-test.false c.loop-number.invariant.turned)
 
 pub returns-clause-in_turn : goal.returns-clause-in_turn
 returns-clause-in_turn g c = c.loop-number.invariant.in_turn.turns

@@ -11,22 +11,22 @@ pub returns-in_err-holds-clause-err : goal.returns-in_err-holds-clause-err
 returns-in_err-holds-clause-err g c =
     on-error _
     (refs-stop c.args.who c.args.refs.now _ _ _ (upstream_state (option_copied c.args.up)) _ _ _ (slice_get-get_or _ _ _ c.loop-index-test.true) c.requires.upstream c.loop-index.invariant
-    c.holds.ensures.lawful c.in_err-holds.ensures.err)
+    c.holds.ensures.lawful c.in_err-holds.ensures.memory)
 
 pub loop-index-preserved-then-branch : goal.loop-index-preserved-then-branch
 loop-index-preserved-then-branch g c =
     seeks-found c.args.who c.args.refs.now _ _ _ (upstream_state (option_copied c.args.up)) _ _ _ (slice_get-get_or _ _ _ c.loop-index-test.true) c.requires.upstream c.loop-index.invariant
-    c.in_ok-holds.ensures.lawful (rw c.if-branch.true at c.in_ok-holds.ensures.ok)
+    c.in_ok-holds.ensures.lawful (rw c.if-branch.true at c.in_ok-holds.ensures.found)
 
 pub returns-then-not-has_object-clause-ok : goal.returns-then-not-has_object-clause-ok
 returns-then-not-has_object-clause-ok g c =
     seeks-absent c.args.who c.args.refs.now _ _ _ (upstream_state (option_copied c.args.up)) _ _ _ (slice_get-get_or _ _ _ c.loop-index-test.true) c.requires.upstream c.loop-index.invariant
-    c.in_ok-holds.ensures.lawful _ c.has_object.ensures c.if-not-has_object.true (rw c.if-branch.false at c.in_ok-holds.ensures.ok)
+    c.in_ok-holds.ensures.lawful _ c.has_object.ensures c.if-not-has_object.true (rw c.if-branch.false at c.in_ok-holds.ensures.found)
 
 pub loop-index-preserved : goal.loop-index-preserved
 loop-index-preserved g c =
     seeks-lacking c.args.who c.args.refs.now _ _ _ (upstream_state (option_copied c.args.up)) _ _ _ (slice_get-get_or _ _ _ c.loop-index-test.true) c.requires.upstream c.loop-index.invariant
-    c.in_ok-holds.ensures.lawful _ c.has_object.ensures c.if-not-has_object.false (rw c.if-branch.false at c.in_ok-holds.ensures.ok)
+    c.in_ok-holds.ensures.lawful _ c.has_object.ensures c.if-not-has_object.false (rw c.if-branch.false at c.in_ok-holds.ensures.found)
 
 pub returns-in_err-holds-clause-asked : goal.returns-in_err-holds-clause-asked
 returns-in_err-holds-clause-asked g c = on-error _ (lawful-same-then _ _ _ c.loop-index.invariant.lawful c.holds.ensures.lawful)

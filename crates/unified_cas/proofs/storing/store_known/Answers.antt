@@ -24,35 +24,35 @@ holds-requires g c =
 pub returns-in_err-holds-clause-err : goal.returns-in_err-holds-clause-err
 returns-in_err-holds-clause-err g c =
     let s = rw c.in_default.is at c.in_ok-reply.ensures.ok in
-    err-made _ Memory _ c.from_residual-in_err-holds.ensures.1 (λ bytes is. own-stops c.args.who c.args.refs.now c.args.digest.now bytes (g.P.CellPort.view c.args.port.now) _ _ is (s.brings.goes_on (g.P.CellPort.view c.args.port.now) bytes (under-self _ _ _)) s.found c.in_err-holds.ensures.err)
+    err-made _ Memory _ c.from_residual-in_err-holds.ensures.1 (λ bytes is. own-stops c.args.who c.args.refs.now c.args.digest.now bytes (g.P.CellPort.view c.args.port.now) _ _ is (s.brings.goes_on (g.P.CellPort.view c.args.port.now) bytes (under-self _ _ _)) s.found c.in_err-holds.ensures.memory)
 
 pub returns-then-branch-clause-ok : goal.returns-then-branch-clause-ok
 returns-then-branch-clause-ok g c =
     let s = rw c.in_default.is at c.in_ok-reply.ensures.ok in
-    λ bytes is. own-stored c.args.who c.args.refs.now c.args.digest.now bytes (g.P.CellPort.view c.args.port.now) _ _ is (s.brings.goes_on (g.P.CellPort.view c.args.port.now) bytes (under-self _ _ _)) s.found _ c.in_ok-holds.ensures.ok c.if-branch.true
+    λ bytes is. own-stored c.args.who c.args.refs.now c.args.digest.now bytes (g.P.CellPort.view c.args.port.now) _ _ is (s.brings.goes_on (g.P.CellPort.view c.args.port.now) bytes (under-self _ _ _)) s.found _ c.in_ok-holds.ensures.found c.if-branch.true
 
 pub bring_tree-requires-clause-speaks : goal.bring_tree-requires-clause-speaks
 bring_tree-requires-clause-speaks g c =
     let s = rw c.in_default.is at c.in_ok-reply.ensures.ok in
-    sought-speaks c.args.who c.args.digest.now (g.P.CellPort.view c.args.port.now) _ _ s.brings.goes _ c.in_ok-holds.ensures.ok c.requires.speaks
+    sought-speaks c.args.who c.args.digest.now (g.P.CellPort.view c.args.port.now) _ _ s.brings.goes _ c.in_ok-holds.ensures.found c.requires.speaks
 
 pub bring_tree-requires-clause-upstream : goal.bring_tree-requires-clause-upstream
 bring_tree-requires-clause-upstream g c =
     let s = rw c.in_default.is at c.in_ok-reply.ensures.ok in
-    sought-upstream c.args.who c.args.digest.now (g.P.CellPort.view c.args.port.now) _ _ s.brings.goes _ c.in_ok-holds.ensures.ok _ c.requires.upstream
+    sought-upstream c.args.who c.args.digest.now (g.P.CellPort.view c.args.port.now) _ _ s.brings.goes _ c.in_ok-holds.ensures.found _ c.requires.upstream
 
 pub returns-in_err-bring_tree-clause-err : goal.returns-in_err-bring_tree-clause-err
 returns-in_err-bring_tree-clause-err g c =
     let s = rw c.in_default.is at c.in_ok-reply.ensures.ok in
-    let known = sought-known c.args.who c.args.digest.now (g.P.CellPort.view c.args.port.now) _ _ s.brings.goes _ c.in_ok-holds.ensures.ok _ c.requires.upstream c.requires.known in
+    let known = sought-known c.args.who c.args.digest.now (g.P.CellPort.view c.args.port.now) _ _ s.brings.goes _ c.in_ok-holds.ensures.found _ c.requires.upstream c.requires.known in
     err-made _ _ _ c.from_residual-in_err-bring_tree.ensures.1
-    (λ bytes is. own-early c.args.who c.args.refs.now c.args.digest.now bytes (g.P.CellPort.view c.args.port.now) _ _ is (s.brings.goes_on (g.P.CellPort.view c.args.port.now) bytes (under-self _ _ _)) s.found _ c.if-branch.false c.in_ok-holds.ensures.ok c.in_ok-holds.ensures.lawful _ _ known s.brings.there c.bring_tree.ensures.lawful
+    (λ bytes is. own-early c.args.who c.args.refs.now c.args.digest.now bytes (g.P.CellPort.view c.args.port.now) _ _ is (s.brings.goes_on (g.P.CellPort.view c.args.port.now) bytes (under-self _ _ _)) s.found _ c.if-branch.false c.in_ok-holds.ensures.found c.in_ok-holds.ensures.lawful _ _ known s.brings.there c.bring_tree.ensures.lawful
     c.in_err-bring_tree.ensures.err)
 
 pub holds-requires-2 : goal.holds-requires-2
 holds-requires-2 g c =
     let s = rw c.in_default.is at c.in_ok-reply.ensures.ok in
-    brought-speaks c.args.who c.args.digest.now (g.P.CellPort.view c.args.port.now) _ _ s.brings.goes _ c.in_ok-holds.ensures.ok _
+    brought-speaks c.args.who c.args.digest.now (g.P.CellPort.view c.args.port.now) _ _ s.brings.goes _ c.in_ok-holds.ensures.found _
     (whole-now _ _ _ _ _ (told-brought _ _ _ c.bring_tree.ensures.lacks c.in_ok-bring_tree.was c.requires.known) c.in_ok-bring_tree.ensures.ok) c.requires.speaks
 
 pub returns-in_err-holds-2-clause-err : goal.returns-in_err-holds-2-clause-err
@@ -62,16 +62,16 @@ returns-in_err-holds-2-clause-err g c =
     err-made _ Memory _ c.from_residual-in_err-holds-2.ensures.1
     (λ bytes is.
     own-stops c.args.who c.args.refs.now c.args.digest.now bytes (g.P.CellPort.view c.args.port.now) _ _ is
-    (own-brought c.args.who c.args.refs.now c.args.digest.now bytes (g.P.CellPort.view c.args.port.now) _ _ is (s.brings.goes_on (g.P.CellPort.view c.args.port.now) bytes (under-self _ _ _)) s.found _ c.if-branch.false c.in_ok-holds.ensures.ok c.in_ok-holds.ensures.lawful _
+    (own-brought c.args.who c.args.refs.now c.args.digest.now bytes (g.P.CellPort.view c.args.port.now) _ _ is (s.brings.goes_on (g.P.CellPort.view c.args.port.now) bytes (under-self _ _ _)) s.found _ c.if-branch.false c.in_ok-holds.ensures.found c.in_ok-holds.ensures.lawful _
     c.bring_tree.ensures.lawful whole)
-    (own-there c.args.who c.args.refs.now c.args.digest.now bytes (g.P.CellPort.view c.args.port.now) _ _ is (s.brings.goes_on (g.P.CellPort.view c.args.port.now) bytes (under-self _ _ _)) s.found _ c.if-branch.false c.in_ok-holds.ensures.ok c.in_ok-holds.ensures.lawful _
-    whole) c.in_err-holds-2.ensures.err)
+    (own-there c.args.who c.args.refs.now c.args.digest.now bytes (g.P.CellPort.view c.args.port.now) _ _ is (s.brings.goes_on (g.P.CellPort.view c.args.port.now) bytes (under-self _ _ _)) s.found _ c.if-branch.false c.in_ok-holds.ensures.found c.in_ok-holds.ensures.lawful _
+    whole) c.in_err-holds-2.ensures.memory)
 
 pub unreachable-requires : goal.unreachable-requires
 unreachable-requires g c =
     not-both _
     (found-whole _ _ _ _ _ _ (whole-now _ _ _ _ _ (told-brought _ _ _ c.bring_tree.ensures.lacks c.in_ok-bring_tree.was c.requires.known) c.in_ok-bring_tree.ensures.ok)
-    c.in_ok-holds-2.ensures.lawful c.in_ok-holds-2.ensures.ok) c.if-not-branch.true
+    c.in_ok-holds-2.ensures.lawful c.in_ok-holds-2.ensures.found) c.if-not-branch.true
 
 pub returns-clause-ok : goal.returns-clause-ok
 returns-clause-ok g c =
@@ -79,10 +79,10 @@ returns-clause-ok g c =
     let whole = (whole-now _ _ _ _ _ (told-brought _ _ _ c.bring_tree.ensures.lacks c.in_ok-bring_tree.was c.requires.known) c.in_ok-bring_tree.ensures.ok) in
     λ bytes is.
     own-stored c.args.who c.args.refs.now c.args.digest.now bytes (g.P.CellPort.view c.args.port.now) _ _ is
-    (own-brought c.args.who c.args.refs.now c.args.digest.now bytes (g.P.CellPort.view c.args.port.now) _ _ is (s.brings.goes_on (g.P.CellPort.view c.args.port.now) bytes (under-self _ _ _)) s.found _ c.if-branch.false c.in_ok-holds.ensures.ok c.in_ok-holds.ensures.lawful _
+    (own-brought c.args.who c.args.refs.now c.args.digest.now bytes (g.P.CellPort.view c.args.port.now) _ _ is (s.brings.goes_on (g.P.CellPort.view c.args.port.now) bytes (under-self _ _ _)) s.found _ c.if-branch.false c.in_ok-holds.ensures.found c.in_ok-holds.ensures.lawful _
     c.bring_tree.ensures.lawful whole)
-    (own-there c.args.who c.args.refs.now c.args.digest.now bytes (g.P.CellPort.view c.args.port.now) _ _ is (s.brings.goes_on (g.P.CellPort.view c.args.port.now) bytes (under-self _ _ _)) s.found _ c.if-branch.false c.in_ok-holds.ensures.ok c.in_ok-holds.ensures.lawful _
-    whole) _ c.in_ok-holds-2.ensures.ok c.if-not-branch.false
+    (own-there c.args.who c.args.refs.now c.args.digest.now bytes (g.P.CellPort.view c.args.port.now) _ _ is (s.brings.goes_on (g.P.CellPort.view c.args.port.now) bytes (under-self _ _ _)) s.found _ c.if-branch.false c.in_ok-holds.ensures.found c.in_ok-holds.ensures.lawful _
+    whole) _ c.in_ok-holds-2.ensures.found c.if-not-branch.false
 
 pub returns-in-Some-clause-reads : goal.returns-in-Some-clause-reads
 returns-in-Some-clause-reads g c =
@@ -92,9 +92,9 @@ returns-in-Some-clause-reads g c =
 pub returns-then-branch-clause-reads : goal.returns-then-branch-clause-reads
 returns-then-branch-clause-reads g c =
     let s = rw c.in_default.is at c.in_ok-reply.ensures.ok in
-    known-found c.args.who c.args.refs.now c.args.digest.now (g.P.CellPort.view c.args.port.now) _ _ s c.in_ok-holds.ensures.lawful _ c.in_ok-holds.ensures.ok
+    known-found c.args.who c.args.refs.now c.args.digest.now (g.P.CellPort.view c.args.port.now) _ _ s c.in_ok-holds.ensures.lawful _ c.in_ok-holds.ensures.found
 
 pub returns-clause-reads : goal.returns-clause-reads
 returns-clause-reads g c =
     let s = rw c.in_default.is at c.in_ok-reply.ensures.ok in
-    known-missed c.args.who c.args.refs.now c.args.digest.now (g.P.CellPort.view c.args.port.now) _ _ s c.in_ok-holds.ensures.lawful _ c.in_ok-holds.ensures.ok c.if-branch.false _
+    known-missed c.args.who c.args.refs.now c.args.digest.now (g.P.CellPort.view c.args.port.now) _ _ s c.in_ok-holds.ensures.lawful _ c.in_ok-holds.ensures.found c.if-branch.false _

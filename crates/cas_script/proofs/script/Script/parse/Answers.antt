@@ -24,13 +24,13 @@ returns-in_err-read_lines-clause-none c =
     let p = err_from_is_err_and c.from_residual.result c.from_residual.ensures.1 in
     rw (p.1, p.2) (stopped_none c.args.text.now c.in_err-read_lines.field-0.0 c.in_err-read_lines.ensures.err)
 
-pub returns-clause-ok : goal.returns-clause-ok
-returns-clause-ok c =
+pub returns-clause-parsed : goal.returns-clause-parsed
+returns-clause-parsed c =
     subst (ReadsLines (lines_of c.args.text.now)) (sym c.in_ok-finish.ensures)
     (lines_read c.args.text.now (sessions_of c.read_lines.new.parser) c.in_ok-read_lines.ensures.ok)
 
 pub returns-clause-only : goal.returns-clause-only
-returns-clause-only c = λ other reads. one_script c.args.text.now other c.in_ok-finish.field-0 reads (returns-clause-ok c)
+returns-clause-only c = λ other reads. one_script c.args.text.now other c.in_ok-finish.field-0 reads (returns-clause-parsed c)
 
 pub returns-clause-fits : goal.returns-clause-fits
-returns-clause-fits c = script_fits c.args.text.now c.in_ok-finish.field-0 c.if-text-gt-MOST_BYTES.false (returns-clause-ok c)
+returns-clause-fits c = script_fits c.args.text.now c.in_ok-finish.field-0 c.if-text-gt-MOST_BYTES.false (returns-clause-parsed c)

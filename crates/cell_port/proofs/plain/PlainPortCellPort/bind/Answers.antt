@@ -14,8 +14,8 @@ invariant_of-self-in-Some g c =
 pub invariant_of-self-in_err-place : goal.invariant_of-self-in_err-place
 invariant_of-self-in_err-place g c = keeps-stays _ _ _ _ _ c.self.invariant c.args.note c.args.space c.args.digest.now _ _ _ _ c.in_err-place.ensures.err
 
-pub returns-in_err-place-clause-err : goal.returns-in_err-place-clause-err
-returns-in_err-place-clause-err g c =
+pub returns-in_err-place-clause-stopped : goal.returns-in_err-place-clause-stopped
+returns-in_err-place-clause-stopped g c =
     let stays = stays-whole _ _ _ _ _ c.self.invariant c.args.note c.args.space c.args.digest.now _ _ _ _ c.in_err-place.ensures.err in
     err-made _ _ _ c.from_residual-in_err-place.ensures.1
     (rw (← c.self.view_is) (refused-stays _ _ _ _ c.self.invariant.tied c.args.note c.args.space c.args.digest.now _ (needed-most _ _ _) _ _ _ stays))
@@ -31,8 +31,8 @@ unbound g c = sym c.place_of.ensures ∙ c.in_default.is
 pub invariant_of-self-2 : goal.invariant_of-self-2
 invariant_of-self-2 g c = keeps-new _ _ _ _ _ c.self.invariant c.args.note c.args.space c.args.digest.now _ _ _ (unbound g c) c.in_ok-place.ensures.ok
 
-pub returns-clause-ok : goal.returns-clause-ok
-returns-clause-ok g c =
+pub returns-clause-bound : goal.returns-clause-bound
+returns-clause-bound g c =
     let binds = binds-whole _ _ _ _ _ c.self.invariant c.args.note c.args.space c.args.digest.now _ _ _ c.in_ok-place.ensures.ok in
     rw (← c.self.view_is) (bound-new _ _ _ _ c.self.invariant.tied c.args.note c.args.space c.args.digest.now (unbound g c) _ _ _ binds)
 

@@ -33,8 +33,8 @@ invariant_of-self-2 g c =
 pub returns-clause-lawful : goal.returns-clause-lawful
 returns-clause-lawful g c = rw (← c.self.view_is) (record { was = c.self.invariant.tied.lawful; is = (invariant_of-self-2 g c).tied.lawful })
 
-pub returns-clause-ok : goal.returns-clause-ok
-returns-clause-ok g c =
+pub returns-clause-filled : goal.returns-clause-filled
+returns-clause-filled g c =
     let start = ap (λ (x : PlainRows). x.start) c.in_ok-filled.ensures.rows ∙ (rows-counter c.self.inside.tables _ _ _ _).1 in
     let events = rw c.place-at.ensures at c.in_ok-filled.ensures.events in
     let closed = rw c.place-at.ensures at c.take_open.ensures.closed in

@@ -1,7 +1,7 @@
 // A store that lasts: commands over one folder in memory, with ids that another implementation of SHA-256 computed.
 ghost use Rattle.std.specs.Prelude.{◌≡◌, None, IfOk};
 
-use crate::testing::{
+use run_fixtures::{
     EMPTY, End, HELLO, ZERO, end_in, folder_failing, fresh_folder, nothing, run_failing, run_in,
     tells, writes,
 };

@@ -1,4 +1,6 @@
-// What the tests share: runs over a folder, a source and a sink in memory.
+//! What the tests of whole runs share: runs over a folder, a source and a sink in memory.
+#![tactic(auto)]
+
 ghost use Rattle.std.specs.Prelude.{◌≡◌, None, IfOk};
 
 use cas_command::{Answer, cas_run};

@@ -1,7 +1,7 @@
 // A store that goes on in new generations, over a folder in memory.
 ghost use Rattle.std.specs.Prelude.{◌≡◌, None, IfOk};
 
-use crate::testing::{HELLO, end_in, folder_failing, fresh_folder, nothing, run_in, tells, writes};
+use run_fixtures::{HELLO, end_in, folder_failing, fresh_folder, nothing, run_in, tells, writes};
 use cas_command::Answer;
 use cas_outside::MemFolder;
 use image_file::ImageError;
