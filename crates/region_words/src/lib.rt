@@ -1,0 +1,14 @@
+//! The words of a region that sessions share: its seats, the rule that holds of the words between any two atomic steps,
+//! and the steps by which blocks are claimed and written.
+#![tactic(auto)]
+
+mod hold;
+mod plays;
+mod region;
+mod rule;
+mod view;
+
+pub use hold::Hold;
+pub use region::{Region, RegionSeat};
+pub use rule::{Key, RegionRule};
+pub use view::{Heard, KnownTable, SeatView};
