@@ -1,4 +1,5 @@
 pub mod Blocks
+pub mod Closing
 pub mod Moves
 pub mod Numbers
 pub mod Rule

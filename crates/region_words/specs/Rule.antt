@@ -1,6 +1,7 @@
 -- The rule of a region's words, and what each step tells the seat that makes it.
 use Rattle.std.specs.Prelude.{◌≡◌, ◌⊎◌, ℕ, ◌+◌, ◌<◌, ◌≤◌, List, [], ◌∷◌, ◌++◌, length, cond, nat_lt, Some, None, true, false}
 use Rattle.std.specs.declared.option.Option.{Option}
+use Rattle.std.specs.Option.{option_map}
 use Rattle.std.specs.declared.snapshot.Snapshot.{Snapshot}
 use mathlib.Core.Option.{some}
 use lib.ListN.{get_elem?}
@@ -34,12 +35,12 @@ abbrev pub first_view : SeatView
 first_view = record { seen = []; numbers = 64 ∷ []; given = 0; blocks = []; working = []; heard = []; known = []; loads = 0; exchanges = 0 }
 
 -- the state of a closed region that may be there
-abbrev pub state_of : Option (Snapshot FrozenSeen) → State
+abbrev pub state_of : Option FrozenSeen → State
 state_of None = empty_state
-state_of (Some frozen) = primary frozen.value.tables
+state_of (Some frozen) = primary frozen.tables
 
 abbrev pub origin : Key → Origin
-origin key = record { upstream = state_of key.upstream; start = key.primary.value.tables }
+origin key = record { upstream = state_of (option_map (λ (s : Snapshot FrozenSeen). s.value) key.upstream); start = key.primary.value.tables }
 
 -- there are a run and a labelling with which the words and the views go
 abbrev pub Holds : Key → Table (Unit {0}) SeatView → Type 0

@@ -2,12 +2,18 @@
 //! and the steps by which blocks are claimed and written.
 #![tactic(auto)]
 
+mod close;
+mod counter;
+mod ended;
 mod hold;
 mod plays;
 mod region;
 mod rule;
+mod seats;
 mod view;
 
+pub use close::{Closed, NotClosed};
+pub use ended::Ended;
 pub use hold::Hold;
 pub use region::{Region, RegionSeat};
 pub use rule::{Key, RegionRule};

@@ -40,44 +40,44 @@ impl Asking for Brand {
 }
 
 /// A load of the counter.
-pub struct LoadsCounter<A> {
+pub struct CounterLoad<A> {
     asking: PhantomData<A>,
 }
 
-impl<A: Asking> Play<(), SeatView> for LoadsCounter<A> {
+impl<A: Asking> Play<(), SeatView> for CounterLoad<A> {
     ghost use Rattle.region_words.specs.Rule.{loads_counter};
 
     ghost then = { loads_counter A.origin A.note A.asked };
 }
 
 /// A claim's addition to the counter.
-pub struct AddsToCounter<A> {
+pub struct CounterAdd<A> {
     asking: PhantomData<A>,
 }
 
-impl<A: Asking> Play<(), SeatView> for AddsToCounter<A> {
+impl<A: Asking> Play<(), SeatView> for CounterAdd<A> {
     ghost use Rattle.region_words.specs.Rule.{adds_to_counter};
 
     ghost then = { adds_to_counter A.origin A.hold A.note A.asked };
 }
 
 /// A store into a block.
-pub struct Writes<A> {
+pub struct WordStore<A> {
     asking: PhantomData<A>,
 }
 
-impl<A: Asking> Play<(), SeatView> for Writes<A> {
+impl<A: Asking> Play<(), SeatView> for WordStore<A> {
     ghost use Rattle.region_words.specs.Rule.{writes};
 
     ghost then = { writes A.hold A.place A.index };
 }
 
 /// A load of word 0, for what it tells of other seats.
-pub struct Hears<A> {
+pub struct Hearing<A> {
     asking: PhantomData<A>,
 }
 
-impl<A: Asking> Play<(), SeatView> for Hears<A> {
+impl<A: Asking> Play<(), SeatView> for Hearing<A> {
     ghost use Rattle.region_words.specs.Rule.{hears};
 
     ghost then = { hears A.origin };
