@@ -54,7 +54,7 @@ module _ (first : List ℕ) (o : Origin) (lawful : IsLawfulStart o.start) (log :
   same-size : (after o log).size ≡ o.start.size
   same-size = size-same o.upstream o.start log r.run
 
-  given-least : 520 ≤ (after o log).given
+  pub given-least : 520 ≤ (after o log).given
   given-least = let p = placed-run o.upstream o.start log r.run in let b = between-least o.start.counter (after o log).given (after o log).claims p.claims in let l = lawful.counter_least in omega arith
 
   three-inside : 3 < length words

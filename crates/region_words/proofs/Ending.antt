@@ -235,3 +235,13 @@ names-the-end o log frozen s seen = record {
   counter = seen.counter ∙ s.long;
   state = one_state frozen.words frozen.tables.size o.start.size (primary frozen.tables) (primary_of o.start log) seen.stands s.stands;
 }
+
+-- the same, where the region, the seat and the words go by other names
+pub closes-as : (key key' : Key) (v v' : SeatView) (words words' : List ℕ) → key ≡ key' → v ≡ v' → words ≡ words' → ((log : List Event) × Ends (origin key) v log × StandFor (origin key) log words) → (log : List Event) × Ends (origin key') v' log × StandFor (origin key') log words'
+closes-as key key' v v' words words' k w l told =
+    subst (λ (z : Key). (log : List Event) × Ends (origin z) v' log × StandFor (origin z) log words') k
+    (subst (λ (z : SeatView). (log : List Event) × Ends (origin key) z log × StandFor (origin key) log words') w
+    (subst (λ (z : List ℕ). (log : List Event) × Ends (origin key) v log × StandFor (origin key) log z) l told))
+
+pub stands-as : (key key' : Key) (log : List Event) (words words' : List ℕ) → key ≡ key' → words ≡ words' → StandFor (origin key) log words → StandFor (origin key') log words'
+stands-as key key' log words words' k l s = subst (λ (z : Key). StandFor (origin z) log words') k (subst (λ (z : List ℕ). StandFor (origin key) log z) l s)

@@ -7,4 +7,4 @@ of_words-requires c =
     let seen = c.seen.ensures in
     opens-from c.key_of-key.result c.args.frozen.now c.as_slice.result.now (c.size-size.result - length c.args.frozen.now.words) c.key_of-key.ensures.start seen
     (let counter = seen.counter in let most = seen.start.counter_most in let size = c.size-size.ensures in omega arith)
-    (c.as_slice.ensures.value ∙ c.in_ok-words.ensures tt ∙ ap (λ (l : List ℕ). l ++ replicate (c.size-size.result - length l) 0) c.words.ensures)
+    (c.as_slice.ensures.value ∙ c.in_ok-words.ensures ∙ ap (λ (l : List ℕ). l ++ replicate (c.size-size.result - length l) 0) c.words.ensures)
