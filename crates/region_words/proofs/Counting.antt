@@ -223,14 +223,14 @@ loads key seen slots id me note n asks has s h len at fits =
         keeps,
         tt,
         still (seeing me.0 (event note (Room n false) ∷ between ++ me.0.seen)) (holds-refused key seen s h id me.0 at note n asks has full),
-        (record { between = between; finds = found; run = (run-here key seen s h id me.0 at, (asks.1, needs full)); then = inr (full, refl) }, refl),
+        (record { between = between; finds = found; run = (run-here key seen s h id me.0 at, (asks.1, needs full)); limit = low; then = inr (full, refl) }, refl),
       )
       | inr room ↦ (
         seeing me.0 (between ++ me.0.seen),
         keeps,
         tt,
         still (seeing me.0 (between ++ me.0.seen)) (holds-seeing key seen s h id me.0 at),
-        (record { between = between; finds = found; run = run-here key seen s h id me.0 at; then = inl (room, refl) }, refl),
+        (record { between = between; finds = found; run = run-here key seen s h id me.0 at; limit = low; then = inl (room, refl) }, refl),
       )
     ]
   where
@@ -239,6 +239,9 @@ loads key seen slots id me note n asks has s h len at fits =
 
     found : FindsCounter (origin key) me.0 (slice_index s.words 3) (h.3.begins id me.0 at).0
     found = finds key seen s h id me.0 at
+
+    low : (after (origin key) ((h.3.begins id me.0 at).0 ++ me.0.seen)).counter ≤ counter_limit (key.primary.value.tables).size
+    low = let c = found.counter in let m = found.most in omega arith
 
     still : (w : SeatView) → Holds key record { words = s.words; homes = s.homes; views = set s.views id w } → Holds key (stepped s 3 (slice_index s.words 3) id me.1 w keeps)
     still w = subst (λ ws. Holds key record { words = ws; homes = s.homes; views = set s.views id w }) (sym (set-get_or s.words 3 0))
@@ -256,14 +259,14 @@ adds key seen slots id me hold note n asks has had s h len at fits =
         keeps,
         tt,
         wide (seeing me.0 (event note (Room n true) ∷ between ++ me.0.seen)) (holds-moved key seen s h id me.0 at note n asks has had full),
-        (record { between = between; finds = found; run = (run-here key seen s h id me.0 at, (asks.1, needs full)); then = inr (full, refl) }, refl),
+        (record { between = between; finds = found; run = (run-here key seen s h id me.0 at, (asks.1, needs full)); limit = moved-limit full; then = inr (full, refl) }, refl),
       )
       | inr room ↦ (
         claiming hold me.0 (event note (Claim n) ∷ between ++ me.0.seen) (slice_index s.words 3) note n,
         keeps,
         tt,
         wide (claiming hold me.0 (event note (Claim n) ∷ between ++ me.0.seen) (slice_index s.words 3) note n) (claimed room),
-        (record { between = between; finds = found; run = subst (IsRun (origin key)) (sym (claiming-seen me.0 (event note (Claim n) ∷ between ++ me.0.seen) (slice_index s.words 3) note n hold)) (run-here key seen s h id me.0 at, (asks.1, has-room room)); then = inl (room, refl) }, refl),
+        (record { between = between; finds = found; run = subst (IsRun (origin key)) (sym (claiming-seen me.0 (event note (Claim n) ∷ between ++ me.0.seen) (slice_index s.words 3) note n hold)) (run-here key seen s h id me.0 at, (asks.1, has-room room)); limit = claimed-limit room; then = inl (room, refl) }, refl),
       )
     ]
   where
@@ -272,6 +275,18 @@ adds key seen slots id me hold note n asks has had s h len at fits =
 
     found : FindsCounter (origin key) me.0 (slice_index s.words 3) (h.3.begins id me.0 at).0
     found = finds key seen s h id me.0 at
+
+    moved-limit : (key.primary.value.tables).size < slice_index s.words 3 + n → (after (origin key) ((h.3.begins id me.0 at).0 ++ me.0.seen)).counter + n ≤ counter_limit (key.primary.value.tables).size
+    moved-limit full =
+        let next = holds-moved key seen s h id me.0 at note n asks has had full in
+        let m = within-limit key.primary.value.words (origin key) seen.start next.0 next.1 (set s.words 3 (slice_index s.words 3 + n)) (set s.views id (seeing me.0 (event note (Room n true) ∷ (h.3.begins id me.0 at).0 ++ me.0.seen))) next.2 in
+        let w = get_or-set_same s.words 3 (slice_index s.words 3 + n) 0 (three-inside key.primary.value.words (origin key) seen.start h.0 h.1 s.words s.views h.2) in
+        let c = found.counter in
+        omega arith
+
+    claimed-limit : slice_index s.words 3 + n ≤ (key.primary.value.tables).size → (after (origin key) (claiming hold me.0 (event note (Claim n) ∷ (h.3.begins id me.0 at).0 ++ me.0.seen) (slice_index s.words 3) note n).seen).counter ≤ counter_limit (key.primary.value.tables).size
+    claimed-limit room = subst (λ (es : List Event). (after (origin key) es).counter ≤ counter_limit (key.primary.value.tables).size) (sym (claiming-seen me.0 (event note (Claim n) ∷ (h.3.begins id me.0 at).0 ++ me.0.seen) (slice_index s.words 3) note n hold))
+        (let c = found.counter in omega arith)
 
     sum-fits : slice_index s.words 3 + n < 2 ^ 64
     sum-fits = let m = found.most in let z = seen.start.most in let k = asks.2 in omega arith

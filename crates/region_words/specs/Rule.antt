@@ -84,6 +84,7 @@ pub record LoadsCounter (o : Origin) (note : Note) (n : ℕ) (v : SeatView) (fou
   pub between : List Event
   pub finds : FindsCounter o v found between
   pub run : IsRun o w.seen
+  pub limit : (after o w.seen).counter ≤ counter_limit o.start.size
   pub then : ((found + n ≤ o.start.size) × (w ≡ seeing v (between ++ v.seen)))
       ⊎ ((o.start.size < found + n) × (w ≡ seeing v (event note (Room n false) ∷ between ++ v.seen)))
 
@@ -92,6 +93,7 @@ pub record AddsToCounter (o : Origin) (hold : Hold) (note : Note) (n : ℕ) (v :
   pub between : List Event
   pub finds : FindsCounter o v found between
   pub run : IsRun o w.seen
+  pub limit : (after o w.seen).counter ≤ counter_limit o.start.size
   pub then : ((found + n ≤ o.start.size) × (w ≡ claiming hold v (event note (Claim n) ∷ between ++ v.seen) found note n))
       ⊎ ((o.start.size < found + n) × (w ≡ seeing v (event note (Room n true) ∷ between ++ v.seen)))
 
