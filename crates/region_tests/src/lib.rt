@@ -1,13 +1,13 @@
-// A library with one function.
+//! Tests of running regions: claims, seats, closing, and two threads at once.
 #![tactic(auto)]
 
-ghost use Rattle.std.specs.Prelude.{◌≡◌};
-ghost use Rattle.region_tests.specs.Echo.{echo_of};
-
-// The `ensures` clause is the contract: what `echo` returns is `echo_of` of its argument, a definition
-// in `specs/Echo.antt`, which a caller's clause can cite too.
-pub fn echo(x: usize) -> usize
-    ensures { result ≡ echo_of x }
-{
-    x
-}
+#[cfg(test)]
+mod closing_tests;
+#[cfg(test)]
+mod claim_tests;
+#[cfg(test)]
+mod seat_tests;
+#[cfg(test)]
+mod testing;
+#[cfg(test)]
+mod thread_tests;

@@ -13,6 +13,7 @@ use std::alloc::Global;
 use std::snapshot::Snapshot;
 
 /// A region that was closed, and its history.
+#[derive(Drop)]
 pub struct Closed {
     pub frozen: Frozen,
     pub ended: Ended,

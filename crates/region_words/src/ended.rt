@@ -18,6 +18,7 @@ pub(crate) struct Shut {
 }
 
 /// The history of a region when it was closed. It takes no bytes: contracts alone see its events, the newest first.
+#[derive(Drop)]
 pub struct Ended {
     marker: PhantomData<u64>,
     pub ghost log: { List Event },
