@@ -1,13 +1,11 @@
 -- A load of the counter and an addition to it, one after the other, are one claim.
-use Rattle.std.proofs.Common.{◌≡◌, ◌⊎◌, ℕ, ◌+◌, ◌<◌, ◌≤◌, List, [], ◌∷◌, ◌++◌, Bool, true, false, refl, sym, ap, ◌∙◌, subst, inl, inr, arith}
+use Rattle.std.proofs.Common.{◌≡◌, ℕ, ◌+◌, ◌<◌, ◌≤◌, List, [], ◌∷◌, ◌++◌, true, false, refl, sym, ap, ◌∙◌, subst, inl, inr, arith}
 use Rattle.std.proofs.lemmas.List.{append_assoc}
 use Rattle.cas_model.specs.declared.note.Note.{Note}
-use Rattle.cas_model.specs.declared.place.Full.{Full}
 use Rattle.cas_history.specs.declared.event.Act.TheVariants.{Claim, Room}
 use Rattle.cas_history.specs.declared.event.Event.{Event}
 use Rattle.cas_history.specs.Laws.{AreOfOtherSessions}
 use Rattle.cas_port.specs.declared.block.Block.{Block}
-use Rattle.region_words.specs.Numbers.{AreOthers}
 use Rattle.region_words.specs.Rule.{event, seeing, claiming, FoundRoom, LoadsCounter, AddsToCounter}
 use Rattle.region_words.specs.Running.{Origin, after}
 use Rattle.region_words.specs.declared.hold.Hold.{Hold}

@@ -37,27 +37,22 @@ fn claim_held(
             size,
         });
     }
-    let at = region.add_to_counter(seat, hold, note, words);
-    if at + words > size {
+    let place = region.add_to_counter(seat, hold, note, words);
+    if place + words > size {
         return Err(Full {
-            at,
+            at: place,
             asked: words,
             size,
         });
     }
-    Ok(Block::of(Place { at }, words))
+    Ok(Block::of(Place { at: place }, words))
 }
 
 /// Claims a block of so many words at the region's counter, for the seat's caller. `Full` where it would pass the
 /// region's end, with the numbers that were found there: a claim that a load of the counter refuses has not moved it, and
 /// one that comes too late has. No session moves it past the end twice, so the counter never passes the size by more
 /// than 65 times the largest claim.
-pub fn claim(
-    region: &Region,
-    seat: &mut RegionSeat,
-    note: Note,
-    words: u64,
-) -> Result<Block, Full>
+pub fn claim(region: &Region, seat: &mut RegionSeat, note: Note, words: u64) -> Result<Block, Full>
     requires own { seat.old.table_id ≡ region.now.table_id }
     requires session { note.who.session ≡ own_number seat.old.view }
     requires words { (1 ≤ words) × (words ≤ 2162688) }

@@ -2,9 +2,9 @@
 #![tactic(auto)]
 
 #[cfg(test)]
-mod closing_tests;
-#[cfg(test)]
 mod claim_tests;
+#[cfg(test)]
+mod closing_tests;
 #[cfg(test)]
 mod seat_tests;
 #[cfg(test)]

@@ -1,8 +1,6 @@
 -- The words of a closed region, with zeros up to its size, meet the rule with one seat.
-use Rattle.std.proofs.Common.{◌≡◌, ◌⊎◌, ℕ, zero, suc, ◌-◌, ◌+◌, ◌<◌, ◌≤◌, List, [], ◌∷◌, ◌++◌, length, get_or, take, take_all, replicate, Some, refl, sym, ap, ◌∙◌, subst, inl, inr, ⊎_elim, arith, length-append}
+use Rattle.std.proofs.Common.{◌≡◌, ℕ, zero, suc, ◌+◌, ◌≤◌, List, [], ◌∷◌, ◌++◌, length, replicate, refl, sym, ap, ◌∙◌, subst, ⊎_elim, arith, length-append}
 use Rattle.std.specs.Prelude.{slice_index}
-use Rattle.std.proofs.lemmas.Bool.{cases_lt}
-use Rattle.std.proofs.lemmas.List.{append-nil}
 use mathlib.Core.Option.{some, some-injective, some-ne-none}
 use lib.ListN.{get_elem?}
 use Rattle.cas_model.specs.Primary.{primary}
@@ -10,13 +8,13 @@ use Rattle.cas_model.specs.Tables.{Tables}
 use Rattle.cas_history.specs.History.{events_of}
 use Rattle.frozen_store.specs.Seen.{FrozenSeen, IsSeen}
 use Rattle.region_core.specs.Certificate.{IsCertified}
-use Rattle.region_core.specs.Found.{heap_of, tables_in}
+use Rattle.region_core.specs.Found.{heap_of}
 use Rattle.region_core.specs.Goes.{Goes}
 use Rattle.region_core.specs.Heap.{Laid, memory_of}
 use Rattle.region_core.proofs.Founding.{stands_certified}
 use Rattle.region_core.proofs.Starts.{tables_in-go}
 use Rattle.region_words.specs.Numbers.{Has, ViewsGo}
-use Rattle.region_words.specs.Rule.{Holds, origin, first_view}
+use Rattle.region_words.specs.Rule.{Holds, first_view}
 use Rattle.region_words.specs.Running.{IsRunning}
 use Rattle.region_words.specs.declared.rule.Key.{Key}
 use Rattle.region_words.specs.declared.view.SeatView.{SeatView}
@@ -97,9 +95,9 @@ pub opens-from : (key : Key) (frozen : FrozenSeen) (words : List ℕ) (n : ℕ) 
     → Holds key record { words = words; homes = []; views = first_view ∷ [] }
 opens-from key frozen words n is seen fits made =
     let long : length words ≡ frozen.tables.size =
-        (let a : length words ≡ length (frozen.words ++ replicate n 0) = ap length made in
-        let b = length-append frozen.words (replicate n 0) in
-        let c = zeros-long n in
-        omega arith) in
+    (let a : length words ≡ length (frozen.words ++ replicate n 0) = ap length made in
+    let b = length-append frozen.words (replicate n 0) in
+    let c = zeros-long n in
+    omega arith) in
     holds-first key (subst IsSeen (sym is) seen) words (long ∙ ap (λ (f : FrozenSeen). f.tables.size) (sym is))
     (λ i. ap (λ l. slice_index l i) made ∙ zeros-past frozen.words n i ∙ ap (λ (f : FrozenSeen). slice_index f.words i) (sym is))

@@ -1,14 +1,12 @@
 -- What the answers at the calls share.
-use Rattle.std.proofs.Common.{◌≡◌, ◌⊎◌, ℕ, ◌+◌, ◌%◌, ◌^◌, ◌<◌, ◌≤◌, List, [], ◌∷◌, ◌++◌, length, refl, sym, ap, ◌∙◌, subst, ⊎_elim, arith}
+use Rattle.std.proofs.Common.{◌≡◌, ℕ, ◌+◌, ◌%◌, ◌^◌, ◌<◌, sym, ◌∙◌, subst, arith}
 use mathlib.Core.Option.{none}
 use Rattle.atomic_table.specs.Table.{Me, step, Allows}
 use Rattle.cas_model.specs.declared.note.Note.{Note}
 use Rattle.frozen_store.specs.Seen.{IsSeen}
-use Rattle.region_words.specs.Blocks.{EndBy, all_blocks}
 use Rattle.region_words.specs.Numbers.{Has, own_number}
-use Rattle.region_words.specs.Rule.{Holds, origin, AsksFor, FoundRoom, LoadsCounter, AddsToCounter, loads_counter, adds_to_counter, hears, writes, HasWordIn, writing}
+use Rattle.region_words.specs.Rule.{Holds, origin, AsksFor, FoundRoom, loads_counter, adds_to_counter, hears, writes, HasWordIn}
 use Rattle.region_words.specs.Running.{Origin}
-use Rattle.region_words.specs.Seen.{RegionSeen, SeatSeen}
 use Rattle.region_words.specs.declared.hold.Hold.{Hold}
 use Rattle.region_words.specs.declared.rule.Key.{Key}
 use Rattle.region_words.specs.declared.view.SeatView.{SeatView}

@@ -1,5 +1,5 @@
 -- The steps on the counter keep the rule: a load, and an addition that claims a block or finds no room.
-use Rattle.std.proofs.Common.{◌≡◌, ◌≢◌, ◌⊎◌, ℕ, zero, suc, ◌+◌, ◌*◌, ◌%◌, ◌^◌, ◌<◌, ◌≤◌, ◌==◌, List, [], ◌∷◌, ◌++◌, length, set, length-set, get_or, get_or-set_other, get_or-set_same, replicate, Some, None, true, false, cond, refl, sym, ap, ◌∙◌, subst, inl, inr, ⊎_elim, arith, lt_of_not-le}
+use Rattle.std.proofs.Common.{◌≡◌, ◌≢◌, ◌⊎◌, ℕ, ◌+◌, ◌%◌, ◌^◌, ◌<◌, ◌≤◌, List, [], ◌∷◌, ◌++◌, length, set, length-set, get_or-set_other, get_or-set_same, replicate, Some, None, true, false, refl, sym, ap, ◌∙◌, subst, inl, inr, arith}
 use Rattle.std.specs.Prelude.{slice_index}
 use Rattle.std.proofs.lemmas.Bool.{cases_lt}
 use Rattle.std.proofs.lemmas.List.{set-get_or}
@@ -8,10 +8,7 @@ use mathlib.Core.Option.{some, none}
 use lib.ListN.{get_elem?}
 use Rattle.atomic_table.specs.Table.{State, Me, step, keeps, stepped, Allows}
 use Rattle.cas_model.specs.declared.note.Note.{Note}
-use Rattle.cas_model.specs.declared.place.Space.{Space}
 use Rattle.cas_model.specs.Start.{IsLawfulStart}
-use Rattle.cas_model.specs.Tables.{Tables, HasClaim}
-use Rattle.cas_history.specs.declared.event.Act.{Act}
 use Rattle.cas_history.specs.declared.event.Act.TheVariants.{Claim, Room}
 use Rattle.cas_history.specs.declared.event.Event.{Event}
 use Rattle.cas_history.specs.History.{events_of}
@@ -22,20 +19,18 @@ use Rattle.cas_port.specs.declared.block.OpenBlock.{OpenBlock}
 use Rattle.cas_port.specs.View.{written_words}
 use Rattle.frozen_store.specs.Seen.{IsSeen}
 use Rattle.region_core.specs.Change.{Placed}
-use Rattle.region_core.specs.Goes.{Goes}
 use Rattle.region_core.specs.Heap.{Block, Free, Table, Claimed, Laid, memory_of}
 use Rattle.region_core.proofs.Claim.{claim, free_at_counter}
 use Rattle.region_core.proofs.Finishing.{header_laid}
 use Rattle.region_core.proofs.Going.{goes_claim}
 use Rattle.region_core.proofs.Heap.{stay}
 use Rattle.region_core.proofs.Inserting.{put, placed_put, wrote_set}
-use Rattle.region_words.specs.Blocks.{block_at, AreSingle, all_blocks, new_block, held}
+use Rattle.region_words.specs.Blocks.{block_at, AreSingle, all_blocks, new_block}
 use Rattle.region_words.specs.Moves.{moves_in, counter_limit}
-use Rattle.region_words.specs.Numbers.{Has, own_number, AreOthers, ViewsGo}
-use Rattle.region_words.specs.Rule.{Holds, origin, event, seeing, claiming, AsksFor, FoundRoom, FindsCounter, LoadsCounter, AddsToCounter, loads_counter, adds_to_counter}
+use Rattle.region_words.specs.Numbers.{Has}
+use Rattle.region_words.specs.Rule.{Holds, origin, event, seeing, claiming, AsksFor, FoundRoom, FindsCounter, loads_counter, adds_to_counter}
 use Rattle.region_words.specs.Running.{Origin, IsRun, after, IsMine, AreKnown, IsRunning}
 use Rattle.region_words.specs.declared.hold.Hold.{Hold}
-use Rattle.region_words.specs.declared.hold.Hold.TheVariants as holds
 use Rattle.region_words.specs.declared.rule.Key.{Key}
 use Rattle.region_words.specs.declared.view.SeatView.{SeatView}
 use Rattle.region_words.proofs.Holding.{cases-at, claiming-at, claiming-single, claiming-known, claiming-seen, claiming-numbers, claiming-given, claiming-heard}
@@ -118,8 +113,8 @@ module _ (first : List ℕ) (o : Origin) (lawful : IsLawfulStart o.start) (log :
           (get_or-set_same words 3 ((after o log).counter + n) 0 three-inside)
           (λ i low other. get_or-set_other words 3 i ((after o log).counter + n) 0 other)
           (header_laid (put heap (after o log).counter (Claimed (replicate n 0))) (memory_of words) (memory_of (set words 3 ((after o log).counter + n))) ((after o log).counter + n) 3 ((after o log).counter + n) (omega arith)
-              (let l = given-least in let g = given-is in omega arith) (wrote_set words 3 ((after o log).counter + n) three-inside)
-              (claim heap (put heap (after o log).counter (Claimed (replicate n 0))) (memory_of words) (after o log).counter n laid-there (omega arith) placed))
+          (let l = given-least in let g = given-is in omega arith) (wrote_set words 3 ((after o log).counter + n) three-inside)
+          (claim heap (put heap (after o log).counter (Claimed (replicate n 0))) (memory_of words) (after o log).counter n laid-there (omega arith) placed))
           (let g = goes_claim heap (put heap (after o log).counter (Claimed (replicate n 0))) (after o log) (replicate n 0) (after o log).counter r.goes was-free placed in record { places = g.places; rows = g.rows; cells = g.cells; blocks = g.blocks })
           (λ q c h. mine q c (blocks q c h))
           (λ j u q b off e h. let old = r.mine j u q b e h in record { here = placed.same q (λ is. no-ones j u b e (ap (block_at (all_blocks u)) (sym is) ∙ h)) ∙ old.here; claimed = inr old.claimed })

@@ -1,10 +1,10 @@
 -- The words of a running region, cut at the counter, stand for what its tables name.
-use Rattle.std.proofs.Common.{◌≡◌, ◌≢◌, ◌⊎◌, ℕ, zero, suc, inl, inr, get_or, take, set, length-set, get_or-set_same, get_or-set_other, ◌<◌, ◌≤◌, List, [], ◌∷◌, ◌++◌, length, Some, refl, ap, sym, ◌∙◌, subst, arith, min}
+use Rattle.std.proofs.Common.{◌≡◌, ◌≢◌, ◌⊎◌, ℕ, zero, suc, inl, inr, get_or, take, length-set, get_or-set_same, get_or-set_other, ◌<◌, ◌≤◌, List, [], ◌∷◌, length, Some, refl, ap, sym, ◌∙◌, subst, arith, min}
 use Rattle.std.proofs.lemmas.Bool.{cases_lt}
 use Rattle.std.specs.Prelude.{slice_index}
 use mathlib.Core.Option.{some}
 use lib.ListN.{get_elem?}
-use Rattle.atomic_table.specs.Table.{State, Final, Seen}
+use Rattle.atomic_table.specs.Table.{Final, Seen}
 use Rattle.cas_model.specs.declared.place.Space.TheVariants.{Objects}
 use Rattle.cas_model.specs.declared.tables.Record as rows
 use Rattle.cas_model.specs.Content.{content_places}
@@ -13,7 +13,6 @@ use Rattle.cas_model.specs.Primary.{primary}
 use Rattle.cas_model.specs.Start.{CellNames, IsContentFor, IsFilled, RefsBelow}
 use Rattle.cas_model.specs.Tables.{Tables, record_at, cell_of, words_at}
 use Rattle.cas_history.specs.declared.event.Event.{Event}
-use Rattle.cas_history.specs.History.{events_of}
 use Rattle.cas_history.specs.Run.{primary_of}
 use Rattle.cas_history.proofs.Grown.{size-same}
 use Rattle.cas_history.proofs.Placed.{placed-run}
@@ -26,10 +25,10 @@ use Rattle.region_core.specs.Stands.{Stands}
 use Rattle.region_core.proofs.Finishing.{header_laid, certificate_stands}
 use Rattle.region_core.proofs.Starts.{one_state}
 use Rattle.region_core.proofs.Tables.{row_out, object_row, primary_names}
-use Rattle.region_words.specs.Closing.{Ends, StandFor, NamesTheEnd, closed_counter, cut_at, kept}
+use Rattle.region_words.specs.Closing.{Ends, StandFor, NamesTheEnd, ClosesWith, cut_at, kept}
 use Rattle.region_words.specs.Numbers.{ViewsGo}
 use Rattle.region_words.specs.Rule.{Holds, origin}
-use Rattle.region_words.specs.Running.{Origin, IsRun, after, IsRunning}
+use Rattle.region_words.specs.Running.{Origin, after, IsRunning}
 use Rattle.region_words.specs.declared.rule.Key.{Key}
 use Rattle.region_words.specs.declared.view.SeatView.{SeatView}
 use Rattle.region_words.proofs.Counting.{given-least}
@@ -213,17 +212,14 @@ module _ (key : Key) (seen : IsSeen key.primary.value) (log : List Event) (heap 
   }
 
 -- what the last state of the table tells
-pub closes : (key : Key) → IsSeen key.primary.value → (id : ℕ) (v : SeatView) (words : List ℕ) (slots : List (Unit {0})) → Final (Seen (Holds key) id v) words slots
-    → (520 ≤ slice_index words 3) × ((log : List Event) × Ends (origin key) v log × StandFor (origin key) log (kept key.primary.value.tables.size words))
+pub closes : (key : Key) → IsSeen key.primary.value → (id : ℕ) (v : SeatView) (words : List ℕ) (slots : List (Unit {0})) → Final (Seen (Holds key) id v) words slots → ClosesWith key v words
 closes key seen id v words slots final =
-    subst (λ (ws : List ℕ). (520 ≤ slice_index ws 3) × ((log : List Event) × Ends (origin key) v log × StandFor (origin key) log (kept key.primary.value.tables.size ws))) final.2 (
-      counter-least key seen final.1.0.0 final.1.0.1 final.0.words final.0.views final.1.0.2,
-      (
-        final.1.0.0,
-        ends key seen final.1.0.0 final.1.0.1 final.0.words final.0.views final.1.0.2 id v final.1.1 final.1.0.3,
-        stands-for key seen final.1.0.0 final.1.0.1 final.0.words final.0.views final.1.0.2,
-      ),
-    )
+    subst (λ (ws : List ℕ). ClosesWith key v ws) final.2 record {
+      least = counter-least key seen final.1.0.0 final.1.0.1 final.0.words final.0.views final.1.0.2;
+      log = final.1.0.0;
+      ends = ends key seen final.1.0.0 final.1.0.1 final.0.words final.0.views final.1.0.2 id v final.1.1 final.1.0.3;
+      stand = stands-for key seen final.1.0.0 final.1.0.1 final.0.words final.0.views final.1.0.2;
+    }
 
 -- the closed words have a state, and their tables name it
 pub has-state : (o : Origin) (log : List Event) (words : List ℕ) → StandFor o log words → HasState words

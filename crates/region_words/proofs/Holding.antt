@@ -1,5 +1,5 @@
 -- The blocks of a seat, looked up by their places.
-use Rattle.std.proofs.Common.{◌≡◌, ◌≢◌, ◌⊎◌, ℕ, zero, suc, ◌+◌, ◌<◌, ◌≤◌, ◌==◌, List, [], ◌∷◌, ◌++◌, length, set, length-set, Some, None, Bool, true, false, cond, refl, sym, ap, ◌∙◌, subst, inl, inr, arith}
+use Rattle.std.proofs.Common.{◌≡◌, ◌≢◌, ◌⊎◌, ℕ, ◌+◌, ◌<◌, ◌≤◌, ◌==◌, List, [], ◌∷◌, ◌++◌, length, length-set, Some, None, Bool, true, false, cond, refl, sym, ap, ◌∙◌, subst, inl, inr, arith}
 use Rattle.std.specs.declared.option.Option.{Option}
 use Rattle.std.proofs.lemmas.Bool.{cases_eq, cases_Bool, cond-true, cond-false, eq-eqb, eqb-true, ne_eqb}
 use Rattle.cas_model.specs.declared.note.Note.{Note}
@@ -7,7 +7,7 @@ use Rattle.cas_history.specs.declared.event.Event.{Event}
 use Rattle.std.specs.Prelude.{slice_set}
 use Rattle.cas_port.specs.declared.block.OpenBlock.{OpenBlock}
 use Rattle.cas_port.specs.View.{open_words, write_word}
-use Rattle.region_words.specs.Blocks.{block_at, AreSingle, EndBy, all_blocks, held, holding, new_block}
+use Rattle.region_words.specs.Blocks.{block_at, AreSingle, EndBy, all_blocks, held, new_block}
 use Rattle.region_words.specs.Rule.{claiming, writing}
 use Rattle.region_words.proofs.Labelling.{length-none}
 use Rattle.region_words.specs.declared.hold.Hold.{Hold}

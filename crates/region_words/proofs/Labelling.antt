@@ -1,5 +1,5 @@
 -- The words of a claimed block, with 0 for those that were not written.
-use Rattle.std.proofs.Common.{◌≡◌, ◌≢◌, ℕ, zero, suc, List, [], ◌∷◌, length, set, map, replicate, Option, Some, None, refl, sym, ap, ◌∙◌, inl, inr}
+use Rattle.std.proofs.Common.{◌≡◌, ℕ, zero, suc, List, [], ◌∷◌, length, set, replicate, Option, Some, refl, ap}
 use Rattle.std.specs.Prelude.{unwrap_or, slice_set}
 use Rattle.cas_port.specs.Blank.{none_written}
 use Rattle.cas_port.specs.View.{written_words}

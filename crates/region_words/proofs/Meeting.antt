@@ -1,31 +1,28 @@
 -- A seat hears of others, is split, and takes in another, and the rule stays.
-use Rattle.std.proofs.Common.{◌≡◌, ◌≢◌, ◌⊎◌, ℕ, zero, suc, ◌+◌, ◌<◌, ◌≤◌, List, [], ◌∷◌, ◌++◌, length, set, Some, None, refl, sym, ap, ◌∙◌, subst, inl, inr, ⊎_elim, arith, lt_of_not-le}
-use Rattle.std.specs.Prelude.{slice_index}
+use Rattle.std.proofs.Common.{◌≡◌, ◌≢◌, ◌⊎◌, ℕ, ◌<◌, List, [], ◌∷◌, ◌++◌, set, Some, refl, sym, ap, ◌∙◌, subst, inl, inr, arith, lt_of_not-le}
 use Rattle.std.proofs.lemmas.List.{set-get_or}
-use mathlib.Core.Option.{some, none, some-injective, some-ne-none}
+use mathlib.Core.Option.{some, none}
 use mathlib.Core.Logic.{dite}
 use native.Mathlib.Decide.{ℕ_discrete, dec_le}
 use lib.ListN.{get_elem?}
-use Rattle.atomic_table.specs.Table.{State, Me, step, keeps, stepped, Allows, Splits, Joins}
+use Rattle.atomic_table.specs.Table.{Me, step, keeps, Allows, Splits, Joins}
 use Rattle.atomic_table.proofs.Lists.{set_else}
 use Rattle.cas_history.specs.declared.event.Event.{Event}
 use Rattle.cas_history.specs.History.{events_of}
-use Rattle.cas_history.specs.Laws.{AreOfOtherSessions}
 use Rattle.cas_port.specs.declared.block.OpenBlock.{OpenBlock}
 use Rattle.frozen_store.specs.Seen.{IsSeen}
 use Rattle.region_core.specs.Heap.{Block}
 use Rattle.region_words.specs.Blocks.{block_at, AreSingle, all_blocks}
-use Rattle.region_words.specs.Numbers.{ViewsGo, IsHeard, Has, AreOthers, Begins, own_number}
-use Rattle.region_words.specs.Rule.{Holds, origin, seeing, Hears, hears, splitting, next_view, joining, spent_view, hearing, GoesOn, SplitsOff, TakesIn, HasAllNumbers, AreOwn}
-use Rattle.region_words.specs.Running.{Origin, IsRun, IsMine, after, AreKnown, IsRunning}
+use Rattle.region_words.specs.Numbers.{ViewsGo, IsHeard, Has, own_number}
+use Rattle.region_words.specs.Rule.{Holds, origin, seeing, hears, splitting, next_view, joining, spent_view, HasAllNumbers, AreOwn}
+use Rattle.region_words.specs.Running.{Origin, IsMine, after, AreKnown, IsRunning}
 use Rattle.region_words.specs.declared.rule.Key.{Key}
-use Rattle.region_words.specs.declared.view.Heard.{Heard}
 use Rattle.region_words.specs.declared.view.SeatView.{SeatView}
 use Rattle.region_words.proofs.Counting.{run-here, holds-seeing}
-use Rattle.region_words.proofs.Holding.{both-at, both-single, HaveNoPlace}
+use Rattle.region_words.proofs.Holding.{both-at, both-single}
 use Rattle.region_words.proofs.Keeping.{known-append}
-use Rattle.region_words.proofs.Lists.{at-here, each-set, each-snoc, first-in}
-use Rattle.region_words.proofs.Viewing.{strangers, go-split, go-join, events-append, others-of, none-of-others}
+use Rattle.region_words.proofs.Lists.{each-set, each-snoc, first-in}
+use Rattle.region_words.proofs.Viewing.{strangers, go-split, go-join, others-of}
 
 -- ---- hearing
 

@@ -1,16 +1,14 @@
 -- A seat's own numbers go with its view after each step.
-use Rattle.std.proofs.Common.{◌≡◌, ◌⊎◌, ℕ, ◌+◌, ◌<◌, ◌≤◌, List, [], ◌∷◌, ◌++◌, length, refl, sym, ap, ◌∙◌, subst, inl, inr, arith, length-append}
+use Rattle.std.proofs.Common.{◌≡◌, ℕ, ◌<◌, List, [], ◌∷◌, ◌++◌, length, refl, sym, ap, ◌∙◌, subst, inl, inr, arith, length-append}
 use Rattle.std.specs.Prelude.{slice_index}
-use mathlib.Core.Option.{none}
-use Rattle.atomic_table.specs.Table.{Me, Step}
+use Rattle.atomic_table.specs.Table.{Me}
 use Rattle.cas_model.specs.declared.note.Note.{Note}
-use Rattle.cas_history.specs.declared.event.Act.TheVariants.{Claim, Room}
+use Rattle.cas_history.specs.declared.event.Act.TheVariants.{Claim}
 use Rattle.cas_history.specs.declared.event.Event.{Event}
 use Rattle.cas_history.specs.History.{events_of}
-use Rattle.cas_history.specs.Laws.{AreOfOtherSessions}
 use Rattle.region_words.specs.Blocks.{EndBy, all_blocks}
-use Rattle.region_words.specs.Numbers.{Has, own_number, IsHeard}
-use Rattle.region_words.specs.Rule.{AddsToCounter, adds_to_counter, writes, writing, claiming, seeing, event, joining, hearing, Hears, GoesOn, TakesIn, HasAllNumbers, AreOwn}
+use Rattle.region_words.specs.Numbers.{Has, own_number}
+use Rattle.region_words.specs.Rule.{AddsToCounter, writing, event, joining, hearing, Hears, GoesOn, TakesIn}
 use Rattle.region_words.specs.Running.{Origin}
 use Rattle.region_words.specs.declared.hold.Hold.{Hold}
 use Rattle.region_words.specs.declared.view.SeatView.{SeatView}

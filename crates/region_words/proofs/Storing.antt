@@ -1,17 +1,16 @@
 -- A store into a seat's block keeps the rule. Nothing is seen.
-use Rattle.std.proofs.Common.{◌≡◌, ◌≢◌, ◌⊎◌, ℕ, zero, suc, ◌+◌, ◌<◌, ◌≤◌, List, [], ◌∷◌, ◌++◌, length, set, length-set, get_or, get_or-set_other, Some, None, refl, sym, ap, ◌∙◌, subst, inl, inr, arith}
-use Rattle.std.specs.Prelude.{slice_index}
+use Rattle.std.proofs.Common.{◌≡◌, ◌≢◌, ◌⊎◌, ℕ, ◌+◌, ◌<◌, ◌≤◌, List, [], length, set, length-set, get_or-set_other, Some, refl, sym, ap, ◌∙◌, subst, inl, inr, arith}
 use mathlib.Core.Option.{some, none}
 use lib.ListN.{get_elem?}
-use Rattle.atomic_table.specs.Table.{State, Me, step, keeps, Allows}
-use Rattle.cas_model.specs.Tables.{Tables, HasClaim}
+use Rattle.atomic_table.specs.Table.{Me, step, keeps, Allows}
+use Rattle.cas_model.specs.Tables.{HasClaim}
 use Rattle.cas_history.specs.declared.event.Event.{Event}
 use Rattle.cas_history.proofs.Grown.{size-same}
 use Rattle.cas_history.proofs.Placed.{placed-run}
 use Rattle.cas_port.specs.declared.block.OpenBlock.{OpenBlock}
-use Rattle.cas_port.specs.View.{written_words, write_word, open_words}
+use Rattle.cas_port.specs.View.{written_words, write_word}
 use Rattle.region_core.specs.Change.{Placed}
-use Rattle.region_core.specs.Heap.{Block, Table, Claimed, extent, Laid, memory_of}
+use Rattle.region_core.specs.Heap.{Block, Table, Claimed, extent, memory_of}
 use Rattle.region_core.proofs.Claim.{write_claimed}
 use Rattle.region_core.proofs.Going.{goes_write}
 use Rattle.region_core.proofs.Heap.{stay}
@@ -69,7 +68,7 @@ module _ (first : List ℕ) (o : Origin) (log : List Event) (heap : ℕ → Bloc
       (get_or-set_other words (q + i) 3 x 0 (λ e. let l = low in omega arith) ∙ r.counter)
       (λ k small _. get_or-set_other words (q + i) k x 0 (λ e. let l = low in omega arith))
       (write_claimed heap (put heap q (Claimed (set (written_words b.words) i x))) (memory_of words) (memory_of (set words (q + i) x)) (after o log).given q i x (written_words b.words) r.laid owned.here
-          (let l = written-length b.words in omega arith) (wrote_set words (q + i) x fits) placed)
+      (let l = written-length b.words in omega arith) (wrote_set words (q + i) x fits) placed)
       (goes_write heap (put heap q (Claimed (set (written_words b.words) i x))) (after o log) (written_words b.words) (set (written_words b.words) i x) q r.goes owned.here placed)
       (λ p c h. mine p c (write-at q i x p (all_blocks v) c (sym (ap (λ bs. block_at bs p) blocks) ∙ h)))
       (λ j u p c off e h. let old = r.mine j u p c e h in record { here = placed.same p (λ pq. off (r.lone j id u v q c b e at (ap (block_at (all_blocks u)) (sym pq) ∙ h) here)) ∙ old.here; claimed = old.claimed })

@@ -1,5 +1,5 @@
 -- Each step, a split and a join keep the views in step with the run. Events are listed with the newest first.
-use Rattle.std.proofs.Common.{◌≡◌, ◌≢◌, ◌⊎◌, ℕ, zero, suc, ◌+◌, ◌<◌, ◌≤◌, ◌==◌, List, [], ◌∷◌, ◌++◌, length, set, Bool, true, false, cond, refl, sym, ap, ◌∙◌, subst, inl, inr, ⊎_elim, arith, le_refl, ne_eqb, eq-eqb, length-append, length-set, nat_lt}
+use Rattle.std.proofs.Common.{◌≡◌, ◌≢◌, ◌⊎◌, ℕ, zero, suc, ◌<◌, ◌≤◌, ◌==◌, List, [], ◌∷◌, ◌++◌, length, set, Bool, true, false, cond, refl, sym, ap, ◌∙◌, subst, inl, inr, ⊎_elim, arith, le_refl, ne_eqb, eq-eqb, length-append, length-set, nat_lt}
 use Rattle.std.proofs.lemmas.List.{append-nil, append_assoc}
 use Rattle.std.proofs.lemmas.Bool.{ltb-true, ltb-false}
 use Rattle.std.specs.Prelude.{slice_index}
@@ -12,6 +12,7 @@ use Rattle.cas_history.specs.declared.event.Event.{Event}
 use Rattle.cas_history.specs.History.{events_of}
 use Rattle.cas_history.specs.Laws.{AreOfOtherSessions}
 use Rattle.cas_history.proofs.Others.{others-events}
+use Rattle.region_words.specs.Laws.{AreOf}
 use Rattle.region_words.specs.Numbers.{ViewsGo, IsHeard, Has, IsFree, AreOthers, Begins, own_number}
 use Rattle.region_words.specs.Rule.{splitting, next_view, joining, spent_view, longer}
 use Rattle.region_words.specs.declared.view.Heard.{Heard}
@@ -39,10 +40,6 @@ others-of n (e ∷ es) none = step (e.note.who.session == n) refl none (others-o
 
 pub none-of-others : (n : ℕ) (es : List Event) → AreOfOtherSessions n es → events_of n es ≡ []
 none-of-others n es others = ap (events_of n) (sym (append-nil es)) ∙ others-events n es [] others
-
--- events that only sessions of a seat's numbers made
-abbrev pub AreOf : List ℕ → List Event → Type 0
-AreOf ns es = (n : ℕ) → (Has n ns → ⊥) → events_of n es ≡ []
 
 other-cond : (b : Bool) (e : Event) → b ≡ false → cond b (e ∷ []) [] ≡ []
 other-cond b e is = rw is refl

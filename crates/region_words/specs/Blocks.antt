@@ -1,10 +1,9 @@
 -- The blocks that a seat has claimed and not published.
-use Rattle.std.specs.Prelude.{◌≡◌, ℕ, ◌+◌, ◌<◌, ◌≤◌, ◌==◌, List, [], ◌∷◌, ◌++◌, length, cond, Some, None, Bool, true, false}
+use Rattle.std.specs.Prelude.{◌≡◌, ℕ, ◌+◌, ◌≤◌, ◌==◌, List, [], ◌∷◌, ◌++◌, length, cond, Some, None}
 use Rattle.std.specs.declared.option.Option.{Option}
 use Rattle.cas_model.specs.declared.call.Who.{Who}
 use Rattle.cas_port.specs.declared.block.OpenBlock.{OpenBlock}
 use Rattle.cas_port.specs.Blank.{none_written}
-use Rattle.cas_port.specs.View.{open_words, write_word}
 use Rattle.region_words.specs.declared.hold.Hold.{Hold}
 use Rattle.region_words.specs.declared.hold.Hold.TheVariants.{Caller, Bind}
 use Rattle.region_words.specs.declared.view.SeatView.{SeatView}

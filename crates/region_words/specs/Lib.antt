@@ -1,5 +1,6 @@
 pub mod Blocks
 pub mod Closing
+pub mod Laws
 pub mod Moves
 pub mod Numbers
 pub mod Rule

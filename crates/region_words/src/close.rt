@@ -2,12 +2,15 @@
 ghost use Rattle.std.specs.Prelude.{◌≡◌, ◌≤◌, List, [], length, slice_index, IfOk, IfErr};
 ghost use Rattle.std.specs.Slots.{slots_items, slots_len, IsFull};
 ghost use Rattle.std.specs.Vec.{vec_capacity};
-ghost use Rattle.region_words.specs.Closing.{Ends, StandFor, NamesTheEnd, kept};
+ghost use Rattle.frozen_store.specs.Seen.{IsSeen};
+ghost use Rattle.region_words.specs.Closing.{Ends, StandFor, NamesTheEnd, ClosesWith, kept};
 ghost use Rattle.region_words.specs.Rule.{origin};
 
 use crate::ended::{Ended, Shut};
 use crate::region::{Region, RegionSeat};
-use atomic_table::Closed as Rows;
+use crate::rule::{Key, RegionRule};
+use crate::view::SeatView;
+use atomic_table::{Closed as Rows, Seat, Table};
 use frozen_store::Frozen;
 use std::alloc::Global;
 use std::snapshot::Snapshot;
@@ -42,6 +45,20 @@ fn keep_words(rows: &Rows<(), Global>, mut words: Vec<u64>, size: u64) -> Vec<u6
     words
 }
 
+// Takes the words back, with the seat that closes them: its view is one of those with which the words go.
+fn stop(
+    table: Table<(), SeatView, Key, RegionRule, Global>,
+    seat: Seat<(), SeatView>,
+) -> Rows<(), Global>
+    requires own { seat.table_id ≡ table.shared.table_id }
+    requires seen { IsSeen table.shared.key.primary.value }
+    ensures full { IsFull result.words × IsFull result.slots }
+    ensures counts { (slots_len result.words ≡ table.shared.table_id.words) × (slots_len result.slots ≡ table.shared.table_id.slots) }
+    ensures ends { ClosesWith table.shared.key seat.me.0 (slots_items result.words) }
+{
+    table.close_with(seat)
+}
+
 impl Region {
     /// Closes the region, with its last seat: what the words hold then, and the history that led to it. It takes its
     /// memory first. Where there is none, it gives both back as they were.
@@ -63,7 +80,7 @@ impl Region {
             number: _,
             given: _,
         } = seat;
-        let rows = table.close_with(seat);
+        let rows = stop(table, seat);
         let words = keep_words(&rows, room, size);
         rows.free();
         let shut = Shut {

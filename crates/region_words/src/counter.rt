@@ -53,13 +53,7 @@ impl Region {
 
     /// Adds so many words to the counter, after a load that found room for them. Where there was room still, they are a
     /// block of the seat's, and else the claim is refused, and has moved the counter.
-    pub fn add_to_counter(
-        &self,
-        seat: &mut RegionSeat,
-        hold: Hold,
-        note: Note,
-        words: u64,
-    ) -> u64
+    pub fn add_to_counter(&self, seat: &mut RegionSeat, hold: Hold, note: Note, words: u64) -> u64
         requires own { seat.old.table_id ≡ self.now.table_id }
         requires asks { AsksFor note words seat.old.view }
         requires room { FoundRoom (origin self.now.key) words seat.old.view }
@@ -90,14 +84,7 @@ impl Region {
     }
 
     /// Stores a word into a block that the seat holds. It sees nothing.
-    pub fn store_word(
-        &self,
-        seat: &mut RegionSeat,
-        hold: Hold,
-        place: u64,
-        index: u64,
-        word: u64,
-    )
+    pub fn store_word(&self, seat: &mut RegionSeat, hold: Hold, place: u64, index: u64, word: u64)
         requires own { seat.old.table_id ≡ self.now.table_id }
         requires inside { HasWordIn hold seat.old.view place index }
         ensures own { seat.new.table_id ≡ seat.old.table_id }

@@ -1,4 +1,4 @@
-use Rattle.std.proofs.Common.{◌≡◌, All, ℕ}
+use Rattle.std.proofs.Common.{◌≡◌, All}
 use Rattle.region_words.specs.Numbers.{own_number}
 use Rattle.region_tests.proofs.seat_tests.all_seats.Given as goal
 

@@ -1,5 +1,4 @@
-use Rattle.std.proofs.Common.{◌≡◌, ◌<◌, ℕ, suc, List, All, ◌∙◌, subst, arith}
-use Rattle.region_words.specs.Seen.{SeatSeen}
+use Rattle.std.proofs.Common.{◌≡◌, suc, List, All, ◌∙◌, subst, arith}
 use Rattle.region_tests.proofs.seat_tests.joined.Goals as goal
 
 pub loop-seat-preserved : goal.loop-seat-preserved

@@ -1,4 +1,4 @@
-use Rattle.std.proofs.Common.{◌≡◌, ℕ, ◌≤◌, take}
+use Rattle.std.proofs.Common.{◌≡◌, ◌≤◌, take}
 use Rattle.std.specs.Slots.{slots_items}
 use Rattle.std.specs.Vec.{vec_capacity}
 use Rattle.region_words.proofs.close.keep_words.Given as goal

@@ -1,5 +1,5 @@
 -- A value of no bytes, whose ghost field is the list that the `requires` names.
-use Rattle.atomic_table.proofs.Names.{◌≡◌, [], ◌∷◌, refl, named, Val, vptr, SProp, emp, ftrue, ‵, raw, ◌⊛◌, given, fjoin, ◌$◌, ◌∵◌, !, qed, by, keep, drop, split, learn, use0, no_more, and_then, returns, enter, alloc_all, pass_all, free_all, look_at, get, sets, agg, tables, yes, RattleType, owns, types_at, plain, nothing, alive, Stays, stay_dropped, walk_of, Goes-dropped, fact, fact_i, RefOf, shr_vals, shr_Tells}
+use Rattle.atomic_table.proofs.Names.{[], ◌∷◌, refl, named, Val, vptr, SProp, emp, ftrue, ‵, raw, ◌⊛◌, given, fjoin, ◌$◌, ◌∵◌, !, qed, by, keep, drop, split, learn, use0, no_more, and_then, returns, enter, alloc_all, pass_all, free_all, look_at, get, sets, agg, tables, yes, RattleType, owns, types_at, plain, nothing, alive, Stays, stay_dropped, walk_of, Goes-dropped, fact, fact_i, RefOf, shr_vals, shr_Tells}
 use Rattle.atomic_table.proofs.Walks.{proved, leaves}
 use Rattle.atomic_table.proofs.Fields.{token_val}
 use mir.Val.{vstruct, vnil}

@@ -1,4 +1,4 @@
-use Rattle.std.proofs.Common.{◌≡◌, ◌<◌, ℕ, sym, ap, ◌∙◌, subst, arith}
+use Rattle.std.proofs.Common.{◌≡◌, sym, ap, ◌∙◌, subst, arith}
 use Rattle.atomic_table.specs.Seated.{TableId}
 use Rattle.region_words.specs.Rule.{origin, AsksFor, FoundRoom}
 use Rattle.region_words.specs.Running.{Origin}
@@ -27,4 +27,4 @@ invariant_of-seat g c =
     let table = ap (λ (s : SeatSeen). s.table_id) c.seat.view_is ∙ (c.requires.own ∙ sym (ap (λ (r : RegionSeen). r.table_id) c.self.view_is)) in
     let size : g.A.Asking.origin.start.size ≡ c.seat.inside.seat.table_id.words = ap (λ (o : Origin). o.start.size) (c.requires.origin ∙ sym key) ∙ sym inv.0 ∙ sym inv.1 ∙ sym (ap (λ (z : TableId). z.words) table) in
     seated-added g.A.Asking.origin g.A.Asking.hold g.A.Asking.note g.A.Asking.asked c.seat.inside.number c.seat.inside.given c.seat.inside.seat.table_id.words c.fetch_add.new.seat.table_id.words c.fetch_add.result c.seat.inside.seat.me c.fetch_add.new.seat.me
-        size (ap (λ (z : TableId). z.words) c.fetch_add.ensures.0) c.seat.invariant c.fetch_add.ensures.2
+    size (ap (λ (z : TableId). z.words) c.fetch_add.ensures.0) c.seat.invariant c.fetch_add.ensures.2

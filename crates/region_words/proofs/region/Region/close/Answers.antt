@@ -1,22 +1,22 @@
-use Rattle.std.proofs.Common.{◌≡◌, ◌≤◌, ℕ, sym, ap, ◌∙◌, subst, arith}
+use Rattle.std.proofs.Common.{ℕ, sym, ap, ◌∙◌, arith}
 use Rattle.std.specs.Slots.{slots_items}
 use Rattle.region_words.specs.Closing.{kept}
 use Rattle.region_words.specs.Seen.{RegionSeen, SeatSeen}
-use Rattle.region_words.proofs.Ending.{closes, closes-as, stands-as, has-state, names-the-end}
+use Rattle.region_words.proofs.Ending.{closes-as, stands-as, has-state, names-the-end}
 use Rattle.region_words.proofs.region.Region.close.Goals as goal
 
 pub keep_words-words-requires-clause-least : goal.keep_words-words-requires-clause-least
 keep_words-words-requires-clause-least c =
-    let told = closes c.self.inside.table.shared.key c.self.invariant.3 _ _ _ _ c.close_with-rows.ensures.values.2 in
+    let told = c.stop-rows.ensures.ends in
     let size = c.self.invariant.0 in
     let least = c.self.invariant.3.start.least in
-    (told.0, omega arith)
+    (told.least, omega arith)
 
 pub of-ended-requires : goal.of-ended-requires
 of-ended-requires c =
-    let told = closes c.self.inside.table.shared.key c.self.invariant.3 _ _ _ _ c.close_with-rows.ensures.values.2 in
+    let told = c.stop-rows.ensures.ends in
     closes-as _ _ _ _ _ _ (ap (λ (r : RegionSeen). r.key) (c.self.view_is ∙ sym c.of-about.ensures)) (ap (λ (s : SeatSeen). s.view) (c.seat.view_is ∙ sym c.of-seen.ensures))
-    (ap (λ (n : ℕ). kept n (slots_items c.close_with-rows.result.words)) (sym c.self.invariant.0) ∙ sym c.keep_words-words.ensures) told.1
+    (ap (λ (n : ℕ). kept n (slots_items c.stop-rows.result.words)) (sym c.self.invariant.0) ∙ sym c.keep_words-words.ensures) (told.log, told.ends, told.stand)
 
 pub of_closed-frozen-requires : goal.of_closed-frozen-requires
 of_closed-frozen-requires c = has-state _ _ _ c.of-ended.ensures.1

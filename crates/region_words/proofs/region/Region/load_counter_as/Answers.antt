@@ -1,4 +1,4 @@
-use Rattle.std.proofs.Common.{◌≡◌, ◌<◌, ℕ, sym, ap, ◌∙◌, subst, arith}
+use Rattle.std.proofs.Common.{sym, ap, ◌∙◌, subst, arith}
 use Rattle.region_words.specs.Rule.{origin, AsksFor}
 use Rattle.region_words.specs.Seen.{RegionSeen, SeatSeen}
 use Rattle.region_words.proofs.Calling.{has-own, inside, loads-as}

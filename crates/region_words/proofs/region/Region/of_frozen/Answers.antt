@@ -1,4 +1,4 @@
-use Rattle.std.proofs.Common.{◌≡◌, ◌-◌, ◌+◌, ◌≤◌, ℕ, List, ◌++◌, length, replicate, sym, ap, ◌∙◌, arith}
+use Rattle.std.proofs.Common.{◌-◌, ℕ, List, ◌++◌, length, replicate, ap, ◌∙◌, arith}
 use Rattle.region_words.proofs.Beginning.{opens-from}
 use Rattle.region_words.proofs.region.Region.of_frozen.Goals as goal
 

@@ -1,7 +1,7 @@
-use Rattle.std.proofs.Common.{◌≡◌, ◌<◌, ℕ, sym, ap, ◌∙◌, subst, arith}
+use Rattle.std.proofs.Common.{ℕ, sym, ap, ◌∙◌, subst, arith}
 use Rattle.atomic_table.specs.Seated.{TableId}
 use Rattle.region_words.specs.Blocks.{EndBy, all_blocks}
-use Rattle.region_words.specs.Numbers.{own_number, Has}
+use Rattle.region_words.specs.Numbers.{Has}
 use Rattle.region_words.specs.Seen.{RegionSeen, SeatSeen}
 use Rattle.region_words.proofs.Calling.{inside}
 use Rattle.region_words.proofs.Meeting.{joins}

@@ -1,4 +1,4 @@
-use Rattle.std.proofs.Common.{◌≡◌, ◌<◌, ℕ, sym, ap, ◌∙◌, arith}
+use Rattle.std.proofs.Common.{sym, ap, ◌∙◌, arith}
 use Rattle.region_words.specs.Rule.{origin}
 use Rattle.region_words.specs.Seen.{RegionSeen, SeatSeen}
 use Rattle.region_words.proofs.Calling.{inside, hears-as}
