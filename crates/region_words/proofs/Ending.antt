@@ -33,7 +33,7 @@ use Rattle.region_words.specs.declared.rule.Key.{Key}
 use Rattle.region_words.specs.declared.view.SeatView.{SeatView}
 use Rattle.region_words.proofs.Counting.{given-least}
 use Rattle.region_words.proofs.Meeting.{alone-others}
-use Rattle.region_words.proofs.Seating.{went-on}
+use Rattle.region_words.proofs.Seating.{goes-on}
 
 -- each filled cell names what it may
 abbrev pub CellsName : Tables → Type 0
@@ -206,7 +206,7 @@ module _ (key : Key) (seen : IsSeen key.primary.value) (log : List Event) (heap 
 
   pub ends : (id : ℕ) (v : SeatView) → get_elem? views id ≡ some v → ViewsGo log views → Ends (origin key) v log
   ends id v at go = record {
-    goes_on = let p = go.begins id v at in went-on v.numbers v.seen log p.0 p.1 (λ n has. go.own id v at n has);
+    goes_on = let p = go.begins id v at in goes-on v.numbers v.seen log p.0 p.1 (λ n has. go.own id v at n has);
     run = r.run;
     whole = λ has. alone-others log views go id v at has;
   }

@@ -278,9 +278,6 @@ writing-end most Bind v q i x h = end-append most v.blocks (write_word v.working
 -- ---- two seats' blocks
 
 module _ (v w : SeatView) (sv : AreSingle (all_blocks v)) (sw : AreSingle (all_blocks w)) where
-  abbrev pub both : List OpenBlock
-  both = (v.blocks ++ w.blocks) ++ (v.working ++ w.working)
-
   pub both-at : (q : ℕ) (b : OpenBlock) → block_at ((v.blocks ++ w.blocks) ++ (v.working ++ w.working)) q ≡ Some b → (block_at (all_blocks v) q ≡ Some b) ⊎ (block_at (all_blocks w) q ≡ Some b)
   both-at q b h = elim (at-either (v.blocks ++ w.blocks) (v.working ++ w.working) q b h) [
     | inl x ↦

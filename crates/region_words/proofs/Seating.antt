@@ -69,7 +69,7 @@ seated-joined number given words words' me other me' same s ends is =
 
 -- ---- what a join tells
 
-goes-on : (numbers : List ℕ) (seen log : List Event) (above : List Event) → log ≡ above ++ seen → ((n : ℕ) → Has n numbers → events_of n log ≡ events_of n seen) → GoesOn numbers seen log
+pub goes-on : (numbers : List ℕ) (seen log : List Event) (above : List Event) → log ≡ above ++ seen → ((n : ℕ) → Has n numbers → events_of n log ≡ events_of n seen) → GoesOn numbers seen log
 goes-on numbers seen log above is same = record {
   above = above;
   is = is;
@@ -78,9 +78,6 @@ goes-on numbers seen log above is same = record {
       let l : length (events_of n above ++ events_of n seen) ≡ length (events_of n seen) = ap length e in
       others-of n above (no-items (events_of n above) (omega (arith, length-append (events_of n above) (events_of n seen))));
 }
-
-pub went-on : (numbers : List ℕ) (seen log : List Event) (above : List Event) → log ≡ above ++ seen → ((n : ℕ) → Has n numbers → events_of n log ≡ events_of n seen) → GoesOn numbers seen log
-went-on = goes-on
 
 pub takes-in : (o : Origin) (v u m w : SeatView) → m ≡ joining v u → Hears o m w → TakesIn o v u w
 takes-in o v u m w is told = at (subst (λ (z : SeatView). Hears o z w) is told)

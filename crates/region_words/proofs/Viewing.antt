@@ -11,7 +11,6 @@ use Rattle.atomic_table.proofs.Lists.{set_else, at_longer}
 use Rattle.cas_history.specs.declared.event.Event.{Event}
 use Rattle.cas_history.specs.History.{events_of}
 use Rattle.cas_history.specs.Laws.{AreOfOtherSessions}
-use Rattle.cas_history.proofs.Others.{others-events}
 use Rattle.region_words.specs.Laws.{AreOf}
 use Rattle.region_words.specs.Numbers.{ViewsGo, IsHeard, Has, IsFree, AreOthers, Begins, own_number}
 use Rattle.region_words.specs.Rule.{splitting, next_view, joining, spent_view, longer}
@@ -37,9 +36,6 @@ others-of n (e ∷ es) none = step (e.note.who.session == n) refl none (others-o
     step : (b : Bool) → (e.note.who.session == n) ≡ b → cond b (e ∷ events_of n es) (events_of n es) ≡ [] → (events_of n es ≡ [] → AreOfOtherSessions n es) → AreOfOtherSessions n (e ∷ es)
     step true test h rest = absurd (cc h)
     step false test h rest = ((λ is. let t = eq-eqb e.note.who.session n is in cc (t, test)), rest h)
-
-pub none-of-others : (n : ℕ) (es : List Event) → AreOfOtherSessions n es → events_of n es ≡ []
-none-of-others n es others = ap (events_of n) (sym (append-nil es)) ∙ others-events n es [] others
 
 other-cond : (b : Bool) (e : Event) → b ≡ false → cond b (e ∷ []) [] ≡ []
 other-cond b e is = rw is refl
