@@ -39,7 +39,7 @@ use Rattle.cas_port.specs.declared.block.PortError.TheVariants as port
 use Rattle.cas_port.specs.Calls.{event_of, Adds, IsLawful, BindClaims, BoundTo, BindRefused, BindFull, IsPlaceFill, HasFilledPlace, WantsMemory, filled_as}
 use Rattle.cas_port.specs.View.{View, tables, tables_before}
 use Rattle.graph_db.specs.Events.{SpeaksFor, Ends, Stands}
-use Rattle.graph_db.specs.Parts.{IsWholeRecord}
+use Rattle.graph_db.specs.Storing.{IsWholeRecord}
 use Rattle.graph_db.proofs.Steps.{missed-more, claims-before, event-ends, event-last, adds-ends, asked-foreign, goes-speaks, goes-upstream, goes-takes}
 use Rattle.graph_db.proofs.Found.{goes-grows}
 use Rattle.graph_db.proofs.Loaded.{whole-record}

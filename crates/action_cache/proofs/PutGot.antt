@@ -39,11 +39,12 @@ use Rattle.cas_model.specs.Notes.{ref_note, deep_note}
 use Rattle.graph_db.proofs.Steps.{are-foreign, goes-speaks, goes-upstream, goes-takes, reads-goes, ends-then, asked-readings}
 use Rattle.graph_db.proofs.Sought as graph
 use Rattle.graph_db.proofs.Found.{sought-ends, sought-last, missed-here, found-here, goes-grows, not-zero-test}
-use Rattle.action_cache.specs.Keys.{MaySeekKey, MayKeep, AreOfKey, GoesOnKey, FindsKey, HasFoundKey, HasSoughtKey, KeyStops, KeepStops, Settles}
+use Rattle.action_cache.specs.Keys.{HasKey, MaySeekKey, MayKeep, AreOfKey, GoesOnKey, FindsKey, HasFoundKey, HasSoughtKey, KeyStops, KeepStops, Settles}
 use Rattle.action_cache.specs.Gets.{HasGot, HasHit, HasMissed, GetStops}
 use Rattle.action_cache.specs.Puts.{HasKept, IsRefused, HasValue, ValueStops}
 use Rattle.action_cache.specs.Brings.{AreDeepLooks, LooksThenKeeps, HasBrought, BringStops}
 use Rattle.action_cache.proofs.KeySteps.{key-goes, key-more}
+use Rattle.action_cache.proofs.KeyLater.{put-reads}
 use Rattle.action_cache.proofs.KeyKept.{kept-there, key-missed, positive, sought-says}
 
 -- ---- get
@@ -158,9 +159,11 @@ module _ (who : Who) (key value : Digest) (old mid : View) (place : Place) (v : 
   may-keep : fin.get old.upstream.cache key ≡ None → MayKeep mid.upstream (Put key value) (digest_at (tables mid).bound place.at)
   may-keep lacks = subst (λ (o : Option Digest). IsValue o value (digest_at (tables mid).bound place.at)) (sym (ap (λ (u : State). fin.get u.cache key) mid-up ∙ lacks)) its-record.1
 
-  pub put-kept : (new : View) (kept : Digest) → fin.get old.upstream.cache key ≡ None → Settles who key (digest_at (tables mid).bound place.at) mid new kept → HasKept who key value old new kept
-  put-kept new kept lacks s = record {
+  pub put-kept : (new : View) (kept : Digest) → fin.get old.upstream.cache key ≡ None → Settles who key (digest_at (tables mid).bound place.at) mid new kept → (HasKey mid key → Reads who mid new)
+      → HasKept who key value old new kept
+  put-kept new kept lacks s reads = record {
     there = s.there;
+    reads = put-reads who key old mid new v.sought.reads lawful reads;
     ends = ends-then who (Put key value) (Some (reply.Kept kept)) old mid new 0 997 first-ends
         (record { goes = key-goes who mid new s.goes; stands = λ calls known opens. s.stands calls (Put key value) known may-put (may-keep lacks) opens; cost = s.cost });
     last = s.last (Put key value);

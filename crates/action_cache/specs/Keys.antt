@@ -1,5 +1,5 @@
 -- What looking for a key, and giving it a value, leave.
-use Rattle.std.specs.Prelude.{◌≡◌, ℕ, ◌+◌, ◌<◌, ◌≤◌, List, [], ◌∷◌, ◌++◌, Bool, false, ◌==◌, ◌⊎◌, IsTrue, Some, None}
+use Rattle.std.specs.Prelude.{◌≡◌, ℕ, ◌+◌, ◌<◌, ◌≤◌, List, [], ◌∷◌, ◌++◌, Bool, false, ◌==◌, ◌⊎◌, IsTrue, Some, None, true, is_some}
 use Rattle.std.specs.declared.option.Option.{Option}
 use Rattle.std.specs.FinMap as fin
 use Rattle.cas_model.specs.Notes.{key_note}
@@ -27,6 +27,10 @@ use Rattle.cas_port.specs.declared.block.PortError.TheVariants as port
 use Rattle.cas_port.specs.Calls.{event_of}
 use Rattle.cas_port.specs.View.{View, tables}
 use Rattle.graph_db.specs.Events.{Last, Reads, Stands, seen_state}
+
+-- the primary has a value for the key
+abbrev pub HasKey : View → Digest → Type 0
+HasKey v key = is_some (fin.get (seen_state v).cache key) ≡ true
 
 -- the call may look for the key: its conduct allows it after what the port has seen
 abbrev pub MaySeekKey : View → Who → Call → Digest → Type 0

@@ -17,10 +17,12 @@ use Rattle.graph_db.specs.declared.error.StoreError.TheVariants.{Dangling, Full,
 use Rattle.graph_db.specs.Events.{Ends, Last, Reads, seen_state}
 use Rattle.graph_db.specs.Holds.{HasSought, SeekStops}
 use Rattle.cas_model.specs.Notes.{ref_note, key_note}
+use Rattle.action_cache.specs.Keys.{HasKey}
 
--- the call is decided by the value that the key has in the primary
+-- the call is decided by the value that the key has in the primary. Where it had one before, the call has only looked and read
 pub record HasKept (who : Who) (key value : Digest) (old new : View) (kept : Digest) : Type 0 where
   pub there : fin.get (seen_state new).cache key ≡ Some kept
+  pub reads : HasKey old key → Reads who old new
   pub ends : Ends who (Put key value) (Some (reply.Kept kept)) old new 997
   pub last : Last (key_note who) (Put key value) (Some (reply.Kept kept)) new
 

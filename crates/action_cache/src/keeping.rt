@@ -1,5 +1,5 @@
 // Looking for a key, and giving it its value.
-ghost use Rattle.std.specs.Prelude.{◌≡◌, ◌<◌, None, true, IfOk, IfErr, OnErr};
+ghost use Rattle.std.specs.Prelude.{◌≡◌, ◌<◌, None, true, IfOk, IfErr, OnErr, OnOk};
 ghost use Rattle.std.specs.FinMap as fin;
 ghost use Rattle.cas_model.specs.Start.{IsFilled};
 ghost use Rattle.cas_model.specs.Tables.{digest_at};
@@ -7,8 +7,8 @@ ghost use Rattle.cas_history.specs.Conduct.{is_key, missed};
 ghost use Rattle.cas_history.specs.Lawful.{Agrees};
 ghost use Rattle.cas_port.specs.Calls.{IsLawful};
 ghost use Rattle.cas_port.specs.View.{tables};
-ghost use Rattle.graph_db.specs.Events.{SpeaksFor};
-ghost use Rattle.action_cache.specs.Keys.{HasSoughtKey, KeyStops, Keeps, KeepStops};
+ghost use Rattle.graph_db.specs.Events.{Reads, SpeaksFor};
+ghost use Rattle.action_cache.specs.Keys.{HasKey, HasSoughtKey, KeyStops, Keeps, KeepStops};
 
 use cas_model::{Digest, Note, Place, Space, Stage, Who};
 use cas_port::{CellPort, Filled, PortError, Steps};
@@ -78,6 +78,7 @@ pub(crate) fn find_or_keep<L: Ledger, P: CellPort>(
     requires agrees { Agrees (fin.get (P.view port.old).upstream.cache key.now) (digest_at (tables (P.view port.old)).bound value.at) }
     ensures ok { IfOk result (λ cell. Keeps who key.now (digest_at (tables (P.view port.old)).bound value.at) (P.view port.old) (P.view port.new) cell) }
     ensures err { IfErr result (KeepStops who key.now (digest_at (tables (P.view port.old)).bound value.at) (P.view port.old) (P.view port.new)) }
+    ensures reads { OnOk result (HasKey (P.view port.old) key.now → Reads who (P.view port.old) (P.view port.new)) }
     ensures lawful { IsLawful (P.view port.old) (P.view port.new) }
 {
     let cell = seek_key(port, who, key, steps)?;

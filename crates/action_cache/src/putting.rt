@@ -1,5 +1,5 @@
 // Giving a key its value.
-ghost use Rattle.std.specs.Prelude.{◌≡◌, Some, None, true, IfOk, IfErr, OnErr};
+ghost use Rattle.std.specs.Prelude.{◌≡◌, Some, None, true, IfOk, IfErr, OnErr, OnOk};
 ghost use Rattle.std.specs.FinMap as fin;
 ghost use Rattle.cas_model.specs.Start.{IsFilled};
 ghost use Rattle.cas_model.specs.State.{has};
@@ -7,9 +7,9 @@ ghost use Rattle.cas_model.specs.Tables.{digest_at};
 ghost use Rattle.cas_history.specs.Lawful.{Agrees};
 ghost use Rattle.cas_port.specs.Calls.{IsLawful};
 ghost use Rattle.cas_port.specs.View.{tables};
-ghost use Rattle.graph_db.specs.Events.{SpeaksFor, seen_state};
+ghost use Rattle.graph_db.specs.Events.{Reads, SpeaksFor, seen_state};
 ghost use Rattle.graph_db.specs.declared.error.StoreError.TheVariants.{Dangling};
-ghost use Rattle.action_cache.specs.Keys.{Settles, KeepStops};
+ghost use Rattle.action_cache.specs.Keys.{HasKey, Settles, KeepStops};
 ghost use Rattle.action_cache.specs.Puts.{HasKept, IsRefused, HasValue, ValueStops};
 ghost use Rattle.action_cache.specs.Brings.{HasBrought, BringStops};
 
@@ -159,6 +159,7 @@ fn settle<L: Ledger, P: CellPort>(
     requires agrees { Agrees (fin.get (P.view port.old).upstream.cache key.now) (digest_at (tables (P.view port.old)).bound value.at) }
     ensures ok { IfOk result (Settles who key.now (digest_at (tables (P.view port.old)).bound value.at) (P.view port.old) (P.view port.new)) }
     ensures err { IfErr result (KeepStops who key.now (digest_at (tables (P.view port.old)).bound value.at) (P.view port.old) (P.view port.new)) }
+    ensures reads { OnOk result (HasKey (P.view port.old) key.now → Reads who (P.view port.old) (P.view port.new)) }
     ensures lawful { IsLawful (P.view port.old) (P.view port.new) }
 {
     let cell = find_or_keep(port, who, key, value, steps)?;

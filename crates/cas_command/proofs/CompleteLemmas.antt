@@ -16,7 +16,7 @@ use Rattle.cas_outside.specs.Folder.{Files, FolderView}
 use Rattle.generations.specs.declared.saving.SaveError.{SaveError}
 use Rattle.generations.specs.declared.saving.SaveError.TheVariants as save
 use Rattle.generations.specs.FolderState.{HasState, IsStateOf}
-use Rattle.generations.specs.Names.{generation_name}
+use Rattle.generations.specs.GenerationNames.{generation_name}
 use Rattle.generations.specs.Opened.{IsDamaged, IsRefused}
 use Rattle.generations.specs.Saved.{SavesTo}
 use Rattle.generations.proofs.ChainStates.{chain-once}
@@ -39,13 +39,13 @@ use Rattle.command_line.specs.declared.command.Command.TheVariants.{Make, CatNod
 use Rattle.command_line.specs.declared.command.Options.{Options}
 use Rattle.command_line.specs.declared.command.Task.{Task}
 use Rattle.command_line.specs.declared.command.Task.TheVariants.{Once, Batch, Workload, Validate, Prune}
-use Rattle.cas_command.specs.declared.front.Front.{Front}
+use Rattle.cas_command.specs.declared.seen_run.Front.{Front}
 use Rattle.cas_command.specs.declared.output.Output.{Output}
 use Rattle.cas_command.specs.declared.output.Output.TheVariants.{Denied}
 use Rattle.cas_command.specs.declared.work.Report.{Report}
 use Rattle.cas_command.specs.declared.work.Work.{Work}
 use Rattle.cas_command.specs.Complete.{AnswersTask, IsQuiet, IsCompleteRun, IsReadable, MayAnswer}
-use Rattle.cas_command.specs.Front.{closed_of}
+use Rattle.cas_command.specs.SeenRun.{closed_of}
 use Rattle.cas_command.specs.Opening.{OpenCause}
 use Rattle.cas_command.specs.Output.{IsOutputOfOne, Reports, refusal_of}
 use Rattle.cas_command.specs.Pruning.{EnterCause, PruneCause}
@@ -154,7 +154,7 @@ opens-may task old new NoMemory quiet free readable h = memory-may task
 written-may :
     (task : Task) (number : ℕ) (due : Option (Vec ℕ Global)) (old between new : FolderView) (given : Answer) → (Rose old.faults new.faults → ⊥) → old.faults ≤ between.faults
     → PutStops number due between new given → MayAnswer task given
-written-may task number due old between new given quiet later stops = by-error stops.error stops.is stops.saves.to where
+written-may task number due old between new given quiet later stops = by-error stops.error stops.is stops.puts.saves.to where
   by-error : (error : SaveError) → given ≡ save_answer error → SavesTo (generation_name number) stops.image.items between new (Err error) → MayAnswer task given
   by-error save.FolderFault is to = absurd (quiet (rose-since old.faults between.faults new.faults later to.1))
   by-error save.Memory is to = given-memory task given is
@@ -210,7 +210,7 @@ upkeep-may (Workload rounds) dir options old new given quiet free readable h = a
 
 written-later : (number : ℕ) (due : Option (Vec ℕ Global)) (old new : FolderView) → IsPut number due old new → old.faults ≤ new.faults
 written-later number None old new put = let same = ap (λ (v : FolderView). v.faults) put in omega (arith, same)
-written-later number (Some image) old new put = put.later.faults
+written-later number (Some image) old new put = put.saves.later.faults
 
 saves-may :
     (task : Task) (number : ℕ) (images : Images) (old between new : FolderView) (given : Answer) → (Rose old.faults new.faults → ⊥) → old.faults ≤ between.faults

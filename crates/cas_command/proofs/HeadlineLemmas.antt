@@ -12,7 +12,7 @@ use Rattle.cas_outside.specs.Folder.{Files, FolderView, PutsFile}
 use Rattle.generations.specs.declared.opening.Opened.{Opened}
 use Rattle.generations.specs.FolderState.{HasChain}
 use Rattle.generations.specs.Laws.{ReadsChain}
-use Rattle.generations.specs.Names.{generation_name}
+use Rattle.generations.specs.GenerationNames.{generation_name}
 use Rattle.generations.specs.Opened.{OpensTo, numbered}
 use Rattle.unified_cas.specs.Upstream.{upstream_state}
 use Rattle.generations.proofs.ChainStates.{opened-chain, rotated-chain, saved-chain}
@@ -21,14 +21,14 @@ use Rattle.region_core.specs.Builds.{empty_region}
 use Rattle.cas_command.specs.declared.answer.Answer.{Answer}
 use Rattle.cas_command.specs.declared.answer.Answer.TheVariants.{Done, Missing, Usage, ReadFault, WriteFault, FolderFault, Damaged, Full, Poisoned, Dangling, BadScript, Held, TooLarge, NoMemory}
 use Rattle.command_line.specs.declared.command.Options.{Options}
-use Rattle.cas_command.specs.declared.front.Front.{Front}
-use Rattle.cas_command.specs.declared.front.Run.{Run}
+use Rattle.cas_command.specs.declared.seen_run.Front.{Front}
+use Rattle.cas_command.specs.declared.seen_run.Run.{Run}
 use Rattle.cas_command.specs.declared.output.Output.{Output}
 use Rattle.cas_command.specs.declared.output.Output.TheVariants.{Denied}
 use Rattle.cas_command.specs.declared.rotation.Rotation.{Rotation}
 use Rattle.cas_command.specs.declared.work.Work.{Work}
 use Rattle.cas_command.specs.Closing.{IsImageDue}
-use Rattle.cas_command.specs.Front.{NotReached, closed_of, front_run, run_of}
+use Rattle.cas_command.specs.SeenRun.{NotReached, closed_of, front_run, run_of}
 use Rattle.cas_command.specs.Headline.{ComesAfterSave, EndsWith, HasHeadline, RunsFrom, RunsTo, RunsToTold}
 use Rattle.cas_command.specs.Rotation.{IsNextDue, full_seen}
 use Rattle.cas_command.specs.Run.{Because, IsPut, Outside, Prepares, Refuses, RunPrepares, World, rotation_of}
@@ -79,7 +79,7 @@ saved-in files size used opened closed (Some image) between mid reads to told du
     record {
       files = fin.insert files (generation_name opened.number) (image_bytes due.1.words);
       told = subst (λ (bs : List ℕ). mid.files ≡ Some (fin.insert files (generation_name opened.number) bs)) due.1.is
-          (subst (λ (fs : Option Files). PutsFile fs mid.files (generation_name opened.number) image.items) told put.to.0);
+          (subst (λ (fs : Option Files). PutsFile fs mid.files (generation_name opened.number) image.items) told put.saves.to.0);
       chain = record { chain = at.chain; has = inl at.number_is };
     }
 
@@ -106,7 +106,7 @@ rotated-in files p u number size used full rotation (Some image) mid new same at
           record {
             files = fin.insert files (generation_name (number + 1)) (image_bytes words);
             told = subst (λ (bs : List ℕ). new.files ≡ Some (fin.insert files (generation_name (number + 1)) bs)) due.1.is
-                (subst (λ (fs : Option Files). PutsFile fs new.files (generation_name (number + 1)) image.items) told put.to.0);
+                (subst (λ (fs : Option Files). PutsFile fs new.files (generation_name (number + 1)) image.items) told put.saves.to.0);
             to = inr (rotated-chain files p u number (unwrap_or rotation.size size) words at.chain is (subst (λ (n : ℕ). n < 4294967295) same due.0.number) due.1.words_are due.1.stands);
           }
       | inr nothing ↦ absurd (due.0.holds nothing)

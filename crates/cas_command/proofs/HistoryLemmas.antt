@@ -35,11 +35,13 @@ use Rattle.cas_history.proofs.Under.{storable}
 use Rattle.cell_port.specs.Plain.{PlainValue}
 use Rattle.cell_port.specs.PlainView.{port_view}
 use Rattle.cas_port.specs.View.{View}
-use Rattle.graph_db.specs.Parts.{IsLawfulOrSame}
+use Rattle.graph_db.specs.Storing.{IsLawfulOrSame}
 use Rattle.sessions.specs.declared.replies.SessionReplies.{SessionReplies}
 use Rattle.cas_script.specs.declared.script.Session.{Session}
 use Rattle.sessions.specs.Turns.{AddsOfThese, AreOfThese, AreUnseen, FollowScript, FollowsLines, HaveRun, HaveStopped, IsAnswered, history_lines}
+use Rattle.sessions.specs.Reading.{NeedNoChange}
 use Rattle.cas_command.specs.Opened.{IsOpenedAt}
+use Rattle.cas_command.proofs.QuietLemmas.{unchanged}
 use Rattle.cas_command.specs.History.{AnswersScript, AreOfSessions, ArePromisesWhole, RunsScript, shown, stored_by, stored_by_line, stored_by_lines, stored_by_sessions}
 
 -- ---- a view, as what a port shows over its upstream
@@ -54,7 +56,7 @@ follow-shown up v sessions calls is h =
 
 answered-of-view : (v : View) (calls : Who → Option Call) (n : ℕ) (lines : List script.Line) (replies : List Reply) → IsAnswered v calls n lines replies
     → IsAnswered (shown v.upstream v.start v.seen) calls n lines replies
-answered-of-view v calls n lines replies h = record { are = h.are; complete = h.complete }
+answered-of-view v calls n lines replies h = record { are = h.are; complete = h.complete; quiet = h.quiet }
 
 answered-shown : (up : State) (v : View) (calls : Who → Option Call) (n : ℕ) (lines : List script.Line) (replies : List Reply) → v.upstream ≡ up → IsAnswered v calls n lines replies
     → IsAnswered (shown up v.start v.seen) calls n lines replies
@@ -330,11 +332,17 @@ module _ {U : Type 0} (state : U → State) (up : State) (t : Tables) (p : Plain
     answered-script replies h =
         let on = went sessions up p.start (port_view state p) (port_view state q) starts h.adds in
         let is-lawful = lawful-end up p.start (port_view state p) (port_view state q) opened.lawful starts on.upstream on.from lawful in
-        let follow = follow-shown up (port_view state q) sessions h.calls on.upstream h.follow in (
+        let follow = follow-shown up (port_view state q) sessions h.calls on.upstream h.follow in
+        let answers : (n : ℕ) (session : Session) (own : SessionReplies) → slice_get sessions n ≡ Some session → slice_get replies n ≡ Some own
+            → IsAnswered (shown up q.start q.seen) h.calls n (history_lines session.lines) own.replies =
+        λ n session own at its. answered-shown up (port_view state q) h.calls n (history_lines session.lines) own.replies on.upstream (h.each n session own at its) in (
           on.from,
           record {
             runs = run-of sessions up (primary t) q.start h.calls q.seen named (ap primary on.from ∙ opened.state_is) (subst (λ (s : Tables). IsLawfulRun up s q.seen) (sym on.from) is-lawful) on.own follow;
             many = h.many;
-            each = λ n session own at its. answered-shown up (port_view state q) h.calls n (history_lines session.lines) own.replies on.upstream (h.each n session own at its);
+            each = answers;
+            unchanged = λ need.
+                let from : primary q.start ≡ primary t = ap primary on.from ∙ opened.state_is in
+                unchanged sessions replies h.calls (shown up q.start q.seen) on.own h.many answers (subst (λ (s : State). NeedNoChange s (history up q.start h.calls q.seen)) (sym from) need) ∙ from;
           },
         )

@@ -13,3 +13,4 @@ pub mod RoomLemmas
 pub mod ShownLemmas
 pub mod RoomyLemmas
 pub mod HeadlineLemmas
+pub mod QuietLemmas

@@ -20,7 +20,7 @@ use Rattle.sessions.specs.declared.replies.Replies.{Replies}
 use Rattle.cas_script.specs.declared.script.Script.{Script}
 use Rattle.cas_script.specs.declared.script.Session.{Session}
 use Rattle.cas_command.specs.declared.closing.Images.{Images}
-use Rattle.cas_command.specs.declared.front.Front.{Front}
+use Rattle.cas_command.specs.declared.seen_run.Front.{Front}
 use Rattle.cas_command.specs.declared.rotation.Rotation.{Rotation}
 use Rattle.cas_command.specs.declared.running.Made.{Made}
 use Rattle.cas_command.specs.declared.output.Output.{Output}
@@ -28,7 +28,7 @@ use Rattle.cas_command.specs.declared.work.Report.{Report}
 use Rattle.cas_command.specs.declared.work.Work.{Work}
 use Rattle.cas_command.specs.Closing.{AreDue, Grows, words_used}
 use Rattle.cas_command.specs.History.{AnswersScript, RunsScript}
-use Rattle.cas_command.specs.Front.{front_run, run_of}
+use Rattle.cas_command.specs.SeenRun.{front_run, run_of}
 use Rattle.cas_command.specs.Made.{HasMade, HasRunTo}
 use Rattle.cas_command.specs.Output.{Reports}
 use Rattle.cas_command.specs.Rotation.{full_seen}

@@ -28,13 +28,13 @@ use Rattle.cas_script.specs.declared.script.Session.{Session}
 use Rattle.cas_script.specs.Parsing.{session_of}
 use Rattle.cas_command.specs.declared.answer.Answer.{Answer}
 use Rattle.cas_command.specs.declared.answer.Answer.TheVariants.{Full, Poisoned}
-use Rattle.cas_command.specs.declared.front.Front.{Front}
-use Rattle.cas_command.specs.declared.front.Run.{Run}
+use Rattle.cas_command.specs.declared.seen_run.Front.{Front}
+use Rattle.cas_command.specs.declared.seen_run.Run.{Run}
 use Rattle.cas_command.specs.declared.output.Output.{Output}
 use Rattle.cas_command.specs.declared.output.Output.TheVariants.{Denied}
 use Rattle.cas_command.specs.declared.work.Report.{Report}
 use Rattle.cas_command.specs.declared.work.Report.TheVariants as report
-use Rattle.cas_command.specs.Front.{Answered, NotReached, Ran, closed_of, front_run, run_of}
+use Rattle.cas_command.specs.SeenRun.{Answered, NotReached, Ran, closed_of, front_run, run_of}
 use Rattle.cas_command.specs.History.{RunsScript, shown}
 use Rattle.cas_command.specs.Output.{Reports, refusal_of}
 use Rattle.cas_command.specs.Room.{HasCause, HasRoom, IsNotFull, IsRoomy, IsShort, IsUnrefused, calls_of_sessions}

@@ -16,8 +16,8 @@ use Rattle.cas_model.specs.Tables.{same_digest}
 use Rattle.cas_outside.specs.Folder.{FolderView}
 use Rattle.generations.specs.declared.saving.SaveError.{SaveError}
 use Rattle.generations.specs.declared.saving.SaveError.TheVariants as save
-use Rattle.generations.specs.Names.{generation_name}
-use Rattle.generations.specs.Saved.{Saves}
+use Rattle.generations.specs.GenerationNames.{generation_name}
+use Rattle.generations.specs.Saved.{ChangedOnce, Saves}
 use Rattle.sessions.specs.declared.replies.Replies.{Replies}
 use Rattle.cas_script.specs.declared.script.Line.{Line}
 use Rattle.cas_script.specs.declared.script.Line.TheVariants.{Store, Load, Put, Get, Act}
@@ -33,13 +33,13 @@ use Rattle.command_line.specs.declared.command.Task.TheVariants.{Once, Batch, Wo
 use Rattle.command_line.specs.declared.command.Verb.{Verb}
 use Rattle.command_line.specs.declared.command.Verb.TheVariants as verb
 use Rattle.command_line.specs.declared.command.Command.TheVariants as command
-use Rattle.cas_command.specs.declared.front.Front.{Front}
+use Rattle.cas_command.specs.declared.seen_run.Front.{Front}
 use Rattle.cas_command.specs.declared.output.Output.{Output}
 use Rattle.cas_command.specs.declared.output.Output.TheVariants.{Text, Denied}
 use Rattle.cas_command.specs.declared.work.Report.{Report}
 use Rattle.cas_command.specs.declared.work.Report.TheVariants as report
 use Rattle.cas_command.specs.declared.work.Work.{Work}
-use Rattle.cas_command.specs.Front.{NotReached, closed_of}
+use Rattle.cas_command.specs.SeenRun.{NotReached, closed_of}
 use Rattle.cas_command.specs.Made.{IsOneCall, IsOneCallFor}
 use Rattle.cas_command.specs.Opening.{OpenCause, OpeningStops}
 use Rattle.cas_command.specs.Output.{Reports, refusal_of}
@@ -401,19 +401,23 @@ one-call Prune before after work h = absurd h
 -- an image that was due was not saved
 pub put-stops :
     (number : ℕ) (due : Option (Vec ℕ Global)) (image : Vec ℕ Global) (bytes : List ℕ) (old new : FolderView) (result : Result (Unit {0}) SaveError) (error : SaveError) (given : Answer)
-    → due ≡ Some image → bytes ≡ image.items → Saves (generation_name number) bytes old new result → result ≡ Err error → given ≡ save_answer error → PutStops number due old new given
-put-stops number due image bytes old new result error given is same saves failed answer = record {
+    → due ≡ Some image → bytes ≡ image.items → Saves (generation_name number) bytes old new result → ChangedOnce old new result → result ≡ Err error → given ≡ save_answer error
+    → PutStops number due old new given
+put-stops number due image bytes old new result error given is same saves once failed answer = record {
   image = image;
   is_due = is;
   error = error;
-  saves = subst (Saves (generation_name number) image.items old new) failed (subst (λ (bs : List ℕ). Saves (generation_name number) bs old new result) same saves);
+  puts = record {
+    saves = subst (Saves (generation_name number) image.items old new) failed (subst (λ (bs : List ℕ). Saves (generation_name number) bs old new result) same saves);
+    once = subst (ChangedOnce old new) failed once;
+  };
   is = answer;
 }
 
 -- the lock stays
 pub put-locked : (number : ℕ) (due : Option (Vec ℕ Global)) (old new : FolderView) → IsPut number due old new → old.locked ≡ true → new.locked ≡ true
 put-locked number None old new put locked = ap (λ (v : FolderView). v.locked) put ∙ locked
-put-locked number (Some image) old new put locked = ap (λ (v : FolderView). v.locked) put.is ∙ locked
+put-locked number (Some image) old new put locked = ap (λ (v : FolderView). v.locked) put.saves.is ∙ locked
 
 -- the size that is given lies within its limits, and so does that of a first generation
 pub size-within : (values : List (String Global)) (size : Option ℕ) → IsGiven 4096 67108864 values size → IsSizeFor size

@@ -12,10 +12,10 @@ use Rattle.sessions.specs.declared.replies.Replies.{Replies}
 use Rattle.cas_script.specs.declared.script.Script.{Script}
 use Rattle.cas_command.specs.declared.answer.Answer.{Answer}
 use Rattle.cas_command.specs.declared.answer.Answer.TheVariants.{Done, Missing, Usage, ReadFault, WriteFault, FolderFault, Damaged, Full, Poisoned, Dangling, BadScript, Held, TooLarge, NoMemory}
-use Rattle.cas_command.specs.declared.front.Front.{Front}
+use Rattle.cas_command.specs.declared.seen_run.Front.{Front}
 use Rattle.cas_command.specs.declared.output.Output.{Output}
 use Rattle.cas_command.specs.declared.output.Output.TheVariants.{Denied}
-use Rattle.cas_command.specs.Front.{Answered, NotReached, Ran}
+use Rattle.cas_command.specs.SeenRun.{Answered, NotReached, Ran}
 use Rattle.cas_command.specs.Opening.{HasOpened}
 use Rattle.cas_command.specs.Run.{Because, Outside, Prepares, Refuses, World}
 use Rattle.command_line.specs.Words.{first_size}

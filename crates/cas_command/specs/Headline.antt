@@ -7,9 +7,9 @@ use Rattle.generations.specs.FolderState.{HasChain}
 use Rattle.sessions.specs.declared.replies.Replies.{Replies}
 use Rattle.cas_command.specs.declared.answer.Answer.{Answer}
 use Rattle.cas_command.specs.declared.answer.Answer.TheVariants.{Done, Missing, WriteFault, Full, Poisoned, Dangling}
-use Rattle.cas_command.specs.declared.front.Front.{Front}
-use Rattle.cas_command.specs.declared.front.Run.{Run}
-use Rattle.cas_command.specs.Front.{closed_of, front_run}
+use Rattle.cas_command.specs.declared.seen_run.Front.{Front}
+use Rattle.cas_command.specs.declared.seen_run.Run.{Run}
+use Rattle.cas_command.specs.SeenRun.{closed_of, front_run}
 use Rattle.cas_command.specs.History.{AnswersScript, RunsScript}
 
 -- the run's history is legal from the state of these files: that of their primary, over that of their upstream

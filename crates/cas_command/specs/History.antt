@@ -20,6 +20,7 @@ use Rattle.cas_history.specs.Theorem.{Promises}
 use Rattle.cas_port.specs.View.{View}
 use Rattle.sessions.specs.declared.replies.SessionReplies.{SessionReplies}
 use Rattle.cas_script.specs.declared.script.Session.{Session}
+use Rattle.sessions.specs.Reading.{NeedNoChange}
 use Rattle.sessions.specs.Turns.{FollowScript, IsAnswered, history_lines}
 
 -- what a port shows over an upstream, once it has seen these events since this start
@@ -71,9 +72,11 @@ pub record RunsScript (sessions : List Session) (up opened : State) (start : Tab
   pub exact : LoadsAreExact (over opened up) (stored_by_sessions sessions) (history up start calls seen)
   pub whole : ArePromisesWhole (primary_of start seen) (history up start calls seen)
 
--- the run does so, and each session was answered to its end, by these replies
+-- The run does so, and each session was answered to its end, by these replies. Where no reply needed a change of the opened state, as those of what was
+-- absent, or of what the primary had already, the primary's state is the opened one, whatever its upstream holds
 pub record AnswersScript (sessions : List Session) (replies : List SessionReplies) (up opened : State) (start : Tables) (seen : List Event) : Type 0 where
   pub runs : RunsScript sessions up opened start seen
   pub many : length replies ≡ length sessions
   pub each : (n : ℕ) (session : Session) (own : SessionReplies) → slice_get sessions n ≡ Some session → slice_get replies n ≡ Some own
       → IsAnswered (shown up start seen) runs.calls n (history_lines session.lines) own.replies
+  pub unchanged : NeedNoChange opened (history up start runs.calls seen) → primary_of start seen ≡ opened

@@ -1,7 +1,7 @@
 pub mod Answer
 pub mod Reading
 pub mod Work
-pub mod Front
+pub mod SeenRun
 pub mod History
 pub mod Opened
 pub mod Opening

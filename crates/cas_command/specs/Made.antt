@@ -11,14 +11,14 @@ use Rattle.cas_history.specs.Run.{tables as tables_after}
 use Rattle.frozen_store.specs.Seen.{FrozenSeen}
 use Rattle.sessions.specs.declared.replies.Replies.{Replies}
 use Rattle.cas_script.specs.Single.{single_script}
-use Rattle.cas_command.specs.declared.front.Front.{Front}
+use Rattle.cas_command.specs.declared.seen_run.Front.{Front}
 use Rattle.cas_command.specs.declared.rotation.Rotation.{Rotation}
 use Rattle.cas_command.specs.declared.running.Made.{Made}
 use Rattle.cas_command.specs.declared.work.Report.{Report}
 use Rattle.cas_command.specs.declared.work.Report.TheVariants as report
 use Rattle.cas_command.specs.declared.work.Work.{Work}
 use Rattle.cas_command.specs.Closing.{AreDue, Uses}
-use Rattle.cas_command.specs.Front.{Answered, ended_of}
+use Rattle.cas_command.specs.SeenRun.{Answered, ended_of}
 use Rattle.cas_command.specs.History.{AnswersScript}
 use Rattle.cas_command.specs.Output.{Reports}
 use Rattle.cas_command.specs.Rotation.{full_seen}

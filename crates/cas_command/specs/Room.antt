@@ -17,9 +17,9 @@ use Rattle.cas_script.specs.declared.script.Session.{Session}
 use Rattle.sessions.specs.Turns.{history_lines}
 use Rattle.cas_command.specs.declared.answer.Answer.{Answer}
 use Rattle.cas_command.specs.declared.answer.Answer.TheVariants.{Full}
-use Rattle.cas_command.specs.declared.front.Front.{Front}
-use Rattle.cas_command.specs.declared.front.Run.{Run}
-use Rattle.cas_command.specs.Front.{front_run}
+use Rattle.cas_command.specs.declared.seen_run.Front.{Front}
+use Rattle.cas_command.specs.declared.seen_run.Run.{Run}
+use Rattle.cas_command.specs.SeenRun.{front_run}
 
 -- all calls that the lines of these sessions may make, of which the cost of their script is the sum
 abbrev pub calls_of_sessions : List Session → List Call

@@ -12,8 +12,8 @@ use Rattle.cas_outside.specs.Folder.{FolderView}
 use Rattle.generations.specs.declared.opening.Opened.{Opened}
 use Rattle.generations.specs.declared.saving.SaveError.{SaveError}
 use Rattle.generations.specs.declared.saving.SaveError.TheVariants as save
-use Rattle.generations.specs.Names.{generation_name}
-use Rattle.generations.specs.Saved.{Saves}
+use Rattle.generations.specs.GenerationNames.{generation_name}
+use Rattle.generations.specs.Saved.{ChangedOnce, Saves}
 use Rattle.cas_command.specs.declared.answer.Answer.{Answer}
 use Rattle.cas_command.specs.declared.answer.Answer.TheVariants.{Done, Usage, WriteFault, FolderFault, TooLarge, NoMemory}
 use Rattle.cas_command.specs.declared.answer.Large.TheVariants.{References}
@@ -22,13 +22,13 @@ use Rattle.command_line.specs.declared.command.Options.{Options}
 use Rattle.command_line.specs.declared.command.Request.{Request}
 use Rattle.command_line.specs.declared.command.Task.{Task}
 use Rattle.command_line.specs.declared.command.Task.TheVariants.{Once, Batch, Workload, Validate, Prune}
-use Rattle.cas_command.specs.declared.front.Front.{Front}
+use Rattle.cas_command.specs.declared.seen_run.Front.{Front}
 use Rattle.cas_command.specs.declared.output.Output.{Output}
 use Rattle.cas_command.specs.declared.output.Output.TheVariants.{Text, Denied}
 use Rattle.cas_command.specs.declared.rotation.Rotation.{Rotation}
 use Rattle.cas_command.specs.declared.running.Made.{Made}
 use Rattle.cas_command.specs.declared.work.Work.{Work}
-use Rattle.cas_command.specs.Front.{NotReached, Ran}
+use Rattle.cas_command.specs.SeenRun.{NotReached, Ran}
 use Rattle.cas_command.specs.Made.{HasMade}
 use Rattle.cas_command.specs.Opening.{HasOpened, OpeningStops}
 use Rattle.cas_command.specs.Output.{IsText}
@@ -78,10 +78,15 @@ pub record Ask (words : List (String Global)) (request : Request) (dir : String 
 
 -- ---- a run that comes to its end
 
--- the file of the generation with this number has the image, where one is due, and the folder is as before where none is
+-- the file of the generation with this number was put by one change of the folder, and for want of memory by none or one
+pub record PutsOnce (number : ℕ) (bytes : List ℕ) (old new : FolderView) (result : Result (Unit {0}) SaveError) : Type 0 where
+  pub saves : Saves (generation_name number) bytes old new result
+  pub once : ChangedOnce old new result
+
+-- the file of the generation with this number has the image, where one is due, by one change of the folder, which is as before where none is
 abbrev pub IsPut : ℕ → Option (Vec ℕ Global) → FolderView → FolderView → Type 0
 IsPut number None old new = new ≡ old
-IsPut number (Some image) old new = Saves (generation_name number) image.items old new (Ok tt)
+IsPut number (Some image) old new = PutsOnce number image.items old new (Ok tt)
 
 -- the primary was saved where it was due, and then a new generation was put above it where that was due
 pub record IsSaved (number : ℕ) (images : Images) (old new : FolderView) : Type 0 where
@@ -166,7 +171,7 @@ pub record PutStops (number : ℕ) (due : Option (Vec ℕ Global)) (old new : Fo
   pub image : Vec ℕ Global
   pub is_due : due ≡ Some image
   pub error : SaveError
-  pub saves : Saves (generation_name number) image.items old new (Err error)
+  pub puts : PutsOnce number image.items old new (Err error)
   pub is : answer ≡ save_answer error
 
 -- the primary was saved where it was due, and the new generation was not put above it, or after a fault maybe was

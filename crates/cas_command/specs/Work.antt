@@ -6,7 +6,7 @@ use Rattle.cas_outside.specs.Causes.{Rose}
 use Rattle.cas_script.specs.declared.error.LineKind.{LineKind}
 use Rattle.cas_script.specs.declared.script.Script.{Script as ScriptValue}
 use Rattle.cas_script.specs.Grammar.{Reads as ReadsText}
-use Rattle.cas_script.specs.Refusals.{IsRefusedAt}
+use Rattle.cas_script.specs.FirstRefused.{IsRefusedAt}
 use Rattle.cas_script.specs.Single.{single_script}
 use Rattle.cas_script.specs.Workload.{workload_script}
 use Rattle.cas_command.specs.declared.answer.Answer.{Answer}

@@ -4,7 +4,7 @@ ghost use Rattle.std.specs.String.{string_bytes};
 ghost use Rattle.cas_command.specs.Answer.{answer_line, damage_words, damaged_line, digits_after, flaw_number, flaw_words, full_line, kind_end, kind_number, line_with, reason_of, status_of};
 ghost use Rattle.cas_command.specs.declared.answer.Answer.TheVariants.{BadScript, Poisoned, TooLarge, Usage};
 
-use crate::front::Front;
+use crate::seen_run::Front;
 use crate::output::push_id;
 use cas_model::{Digest, Full, Id, IdError};
 use cas_script::LineKind;

@@ -3,7 +3,7 @@
 
 mod answer;
 mod closing;
-mod front;
+mod seen_run;
 mod input;
 mod opening;
 mod output;

@@ -13,7 +13,7 @@ ghost use Rattle.cas_command.specs.Run.{Because, Ends, HasNext, IsPut, IsSaved, 
 
 use crate::answer::{Answer, Large, Outcome};
 use crate::closing::Images;
-use crate::front::Front;
+use crate::seen_run::Front;
 use crate::opening::open;
 use crate::output::{Output, write_all};
 use crate::pruning::prune_text;

@@ -5,14 +5,14 @@ ghost use Rattle.cas_model.specs.Primary.{primary};
 ghost use Rattle.cas_model.specs.State.{empty_state};
 ghost use Rattle.cas_history.specs.Loads.{HasOwnDigests};
 ghost use Rattle.unified_cas.specs.Upstream.{upstream_state};
-ghost use Rattle.cas_command.specs.Front.{NotReached, Ran};
+ghost use Rattle.cas_command.specs.SeenRun.{NotReached, Ran};
 ghost use Rattle.cas_command.specs.History.{RunsScript};
 ghost use Rattle.cas_command.specs.Opened.{IsOpenedAt};
 ghost use Rattle.cas_command.specs.Made.{HasMade, HasRunTo, IsOneCall};
 ghost use Rattle.cas_command.specs.Rotation.{IsSizeWithin};
 
 use crate::closing::{Images, counts_of, images_due};
-use crate::front::Front;
+use crate::seen_run::Front;
 use crate::output::{Output, output_of};
 use crate::rotation::{Rotation, full_seen};
 use crate::work::Work;

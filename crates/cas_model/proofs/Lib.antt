@@ -6,3 +6,4 @@ pub mod Fitting
 pub mod IdLemmas
 pub mod DataBytes
 pub mod ReadBack
+pub mod DecimalLemmas

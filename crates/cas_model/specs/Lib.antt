@@ -10,3 +10,4 @@ pub mod Start
 pub mod Trie
 pub mod Contents
 pub mod Claims
+pub mod Decimal

@@ -5,6 +5,7 @@
 mod call;
 mod content;
 mod contents;
+mod decimal;
 mod digest;
 mod id;
 mod note;
@@ -16,6 +17,7 @@ mod upstream;
 pub use call::{Call, Reply, Who};
 pub use content::{content_length, data_word, head_word, split_head};
 pub use contents::{Contents, Pair};
+pub use decimal::number_within;
 pub use digest::Digest;
 pub use id::{Id, IdError, ids_are_read_back};
 pub use note::{Note, Stage};

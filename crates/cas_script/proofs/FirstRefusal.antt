@@ -14,7 +14,7 @@ use Rattle.cas_script.specs.Verbs.{count_check}
 use Rattle.cas_script.specs.Arguments.{IsNumber, IsNoBack, IsNoName, IsKey, IsNoKey, IsData, IsNoData, AreNoNames}
 use Rattle.cas_script.specs.Lines.{stored_by, AreNoArguments}
 use Rattle.cas_script.specs.Grammar.{ReadsLines}
-use Rattle.cas_script.specs.Refusals.{last_lines, Then, session_check, bare_check, place_check, IsRefusedVerb, IsRefusedCall, Unknown, Opening, Speaking, IsRefusedLine, IsRefusedAt, OnLine}
+use Rattle.cas_script.specs.FirstRefused.{last_lines, Then, session_check, bare_check, place_check, IsRefusedVerb, IsRefusedCall, Unknown, Opening, Speaking, IsRefusedLine, IsRefusedAt, OnLine}
 use Rattle.cas_script.proofs.Names.{back_one, no_name, no_key, no_data}
 use Rattle.cas_script.proofs.LineForms.{verb_one, no_session_word}
 use Rattle.cas_script.proofs.Refused.{reads_one, lines_refused}

@@ -1,5 +1,4 @@
 pub mod PieceLists
-pub mod Digits
 pub mod Names
 pub mod LineForms
 pub mod Sections

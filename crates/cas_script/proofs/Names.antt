@@ -11,7 +11,8 @@ use Rattle.cas_model.specs.Object.{key_digest}
 use Rattle.cas_model.specs.Id.{IsIdOf, IsRefused, digits_of}
 use Rattle.cas_script.specs.declared.error.LineKind.{LineKind}
 use Rattle.cas_script.specs.declared.error.LineKind.TheVariants as kinds
-use Rattle.cas_script.specs.Arguments.{IsNumber, decimal_after, HasStored, IsBackOf, IsNoBack, IsBack, IsName, IsNoName, IsAction, IsKey, IsNoKey, IsData, IsNoData, AreNames, AreNoNames}
+use Rattle.cas_model.proofs.DecimalLemmas.{number-one}
+use Rattle.cas_script.specs.Arguments.{IsNumber, HasStored, IsBackOf, IsNoBack, IsBack, IsName, IsNoName, IsAction, IsKey, IsNoKey, IsData, IsNoData, AreNames, AreNoNames}
 
 -- what is refused as an id is the id of no digest
 pub no_id : (error : IdError) (token : List ℕ) → IsRefused error token → (digest : Digest) → ¬ IsIdOf digest token
@@ -59,7 +60,7 @@ action_one : (token xs ys : List ℕ) → IsAction token xs → IsAction token y
 action_one token xs ys is also = ap (drop 7) (sym is ∙ also)
 
 pub number_one : (xs ys : List ℕ) (m n : ℕ) → xs ≡ ys → IsNumber xs m → IsNumber ys n → m ≡ n
-number_one xs ys m n same is also = is.value ∙ ap (decimal_after 0) same ∙ sym also.value
+number_one xs ys m n same is also = number-one 1 99999 m n ys (omega arith) (subst (λ ds. IsNumber ds m) same is) also
 
 stored_one : (stored : List (Option Digest)) (m n : ℕ) (a b : Digest) → m ≡ n → HasStored stored m a → HasStored stored n b → a ≡ b
 stored_one stored m n a b same is also =

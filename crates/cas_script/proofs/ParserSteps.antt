@@ -17,7 +17,7 @@ use Rattle.cas_script.specs.Verbs.{session_word, verb_word, count_check}
 use Rattle.cas_script.specs.Arguments.{OnKind}
 use Rattle.cas_script.specs.Lines.{stored_by, AreNoArguments, IsLineOf}
 use Rattle.cas_script.specs.Grammar.{begins_session}
-use Rattle.cas_script.specs.Refusals.{last_lines, Then, session_check, bare_check, place_check, IsRefusedVerb, IsRefusedCall, Unknown, Opening, Speaking, IsRefusedLine}
+use Rattle.cas_script.specs.FirstRefused.{last_lines, Then, session_check, bare_check, place_check, IsRefusedVerb, IsRefusedCall, Unknown, Opening, Speaking, IsRefusedLine}
 use Rattle.cas_script.specs.Parsing.{session_of, Says, Begins, Adds, Opens, Speaks, so_far}
 use Rattle.cas_script.proofs.LineForms.{pass, refused, err_not_ok, bare_line}
 use Rattle.cas_script.proofs.Sections.{part_of}

@@ -9,7 +9,7 @@ use Rattle.cas_script.specs.declared.refusal.Refusal.TheVariants.{Kind, Memory}
 use Rattle.cas_script.specs.Text.{pieces, more_pieces}
 use Rattle.cas_script.specs.Arguments.{OnKind}
 use Rattle.cas_script.specs.Grammar.{ReadsLines}
-use Rattle.cas_script.specs.Refusals.{IsRefusedLine}
+use Rattle.cas_script.specs.FirstRefused.{IsRefusedLine}
 use Rattle.cas_script.specs.Parsing.{Adds, IsStopped, error_at}
 use Rattle.cas_script.proofs.Readings.{reads_none, extended}
 

@@ -16,7 +16,7 @@ use Rattle.cas_script.specs.Text.{pieces, lines_of, without_empty_end, speaks, t
 use Rattle.cas_script.specs.Verbs.{session_word, verb_word, count_check}
 use Rattle.cas_script.specs.Lines.{stored_by, verb_of, AreArguments, AreNoArguments}
 use Rattle.cas_script.specs.Grammar.{begins_session, AreSessions, ReadsLines, Reads}
-use Rattle.cas_script.specs.Refusals.{last_lines, Then, session_check, bare_check, place_check, IsRefusedVerb, IsRefusedCall, Unknown, Opening, Speaking, IsRefusedLine, IsRefusedAt, OnLine}
+use Rattle.cas_script.specs.FirstRefused.{last_lines, Then, session_check, bare_check, place_check, IsRefusedVerb, IsRefusedCall, Unknown, Opening, Speaking, IsRefusedLine, IsRefusedAt, OnLine}
 use Rattle.cas_script.specs.Parsing.{session_of, Adds, Silent, Opens, Speaks, IsRefusedPiece, IsStopped}
 use Rattle.cas_script.proofs.LineForms.{pass, refused, err_not_ok, verb_one, no_session_word, line_counted, no_arguments}
 use Rattle.cas_script.proofs.Sections.{ends}

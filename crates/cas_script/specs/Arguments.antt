@@ -4,6 +4,7 @@ use Rattle.std.specs.declared.option.Option.{Option}
 use Rattle.std.specs.List.{AllPass}
 use Rattle.hex.specs.Hex.{decode_of}
 use Rattle.cas_model.specs.declared.digest.Digest.{Digest}
+use Rattle.cas_model.specs.Decimal.{IsNumberWithin}
 use Rattle.cas_model.specs.Id.{IsIdOf}
 use Rattle.cas_model.specs.Object.{key_digest}
 use Rattle.cas_script.specs.declared.refusal.Refusal.{Refusal}
@@ -11,22 +12,9 @@ use Rattle.cas_script.specs.declared.refusal.Refusal.TheVariants.{Kind, Memory}
 use Rattle.cas_script.specs.declared.error.LineKind.{LineKind}
 use Rattle.cas_script.specs.declared.error.LineKind.TheVariants.{BadId, BadData, BadReference}
 
--- a decimal digit
-abbrev pub is_decimal : ℕ → Bool
-is_decimal b = nat_le 48 b && nat_le b 57
-
--- the number that decimal digits write after those of n
-abbrev pub decimal_after : ℕ → List ℕ → ℕ
-decimal_after n [] = n
-decimal_after n (digit ∷ digits) = decimal_after (10 * n + (digit - 48)) digits
-
 -- one to five decimal digits, the first not 0, that write this number
-pub record IsNumber (digits : List ℕ) (number : ℕ) : Type 0 where
-  pub some : 0 < length digits
-  pub few : length digits ≤ 5
-  pub first : slice_index digits 0 ≢ 48
-  pub each : AllPass is_decimal digits
-  pub value : number ≡ decimal_after 0 digits
+abbrev pub IsNumber : List ℕ → ℕ → Type 0
+IsNumber digits number = IsNumberWithin 1 99999 digits number
 
 -- the line with this number, counted from 1, has stored the object with this digest
 abbrev pub HasStored : List (Option Digest) → ℕ → Digest → Type 0

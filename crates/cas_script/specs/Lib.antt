@@ -3,7 +3,7 @@ pub mod Verbs
 pub mod Arguments
 pub mod Lines
 pub mod Grammar
-pub mod Refusals
+pub mod FirstRefused
 pub mod Parsing
 pub mod Limits
 pub mod Workload

@@ -12,7 +12,7 @@ use Rattle.cas_script.specs.declared.refusal.Refusal.TheVariants as refusals
 use Rattle.cas_script.specs.Text.{pieces, speaks}
 use Rattle.cas_script.specs.Lines.{stored_by, IsLine, IsLineOf}
 use Rattle.cas_script.specs.Grammar.{begins_session, ReadsLines}
-use Rattle.cas_script.specs.Refusals.{IsRefusedLine}
+use Rattle.cas_script.specs.FirstRefused.{IsRefusedLine}
 
 -- the session of these lines
 abbrev pub session_of : List Line → Session

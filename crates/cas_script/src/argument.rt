@@ -5,14 +5,16 @@ ghost use Rattle.hex.specs.Hex.{decode_of};
 ghost use Rattle.cas_script.specs.declared.error.LineKind;
 
 use crate::LineKind;
-use crate::number::number_of;
 use crate::refusal::Refusal;
-use cas_model::{Data, Digest, Id};
+use cas_model::{Data, Digest, Id, number_within};
 use hex::FromHexError;
 use std::alloc::Global;
 
 /// What a reference to a line of the same session begins with.
 const BACK: &[u8] = b"%";
+
+/// The highest number that a reference can name: five digits.
+const MOST_LINE: u64 = 99_999;
 
 /// What a key that is no id begins with.
 const ACTION: &[u8] = b"action:";
@@ -70,10 +72,10 @@ pub fn data_of(alloc: Global, token: &[u8]) -> Result<Data, Refusal>
 fn back_of(stored: &[Option<Digest>], digits: &[u8]) -> Result<Digest, LineKind>
     ensures { MatchResult result (IsBackOf stored.now digits.now) (IsNoBack stored.now digits.now) }
 {
-    let Some(number) = number_of(digits) else {
+    let Some(number) = number_within(digits, 1, MOST_LINE) else {
         return Err(LineKind::BadId);
     };
-    match stored.get(number - 1) {
+    match stored.get(number as usize - 1) {
         Some(Some(digest)) => Ok(*digest),
         Some(None) | None => Err(LineKind::BadReference),
     }

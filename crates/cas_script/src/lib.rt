@@ -5,7 +5,6 @@ mod argument;
 mod cut;
 mod error;
 mod line;
-mod number;
 mod number_text;
 mod parse;
 mod parser;

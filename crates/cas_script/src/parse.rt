@@ -7,7 +7,7 @@ ghost use Rattle.cas_script.specs.declared.script.Script.{Script};
 ghost use Rattle.cas_script.specs.Text.{pieces};
 ghost use Rattle.cas_script.specs.Grammar.{Reads, ReadsLines};
 ghost use Rattle.cas_script.specs.Limits.{FitsScript};
-ghost use Rattle.cas_script.specs.Refusals.{IsRefusedAt, OnLine};
+ghost use Rattle.cas_script.specs.FirstRefused.{IsRefusedAt, OnLine};
 ghost use Rattle.cas_script.specs.Parsing.{IsWhole, sessions_of, IsStopped, error_at};
 
 use crate::cut::cut;

@@ -3,7 +3,7 @@ ghost use Rattle.std.specs.Prelude.{◌≡◌, ◌<◌, [], ◌∷◌, ◌++◌,
 ghost use Rattle.cas_script.specs.Text.{more_pieces};
 ghost use Rattle.cas_script.specs.Arguments.{OnKind};
 ghost use Rattle.cas_script.specs.Lines.{stored_by};
-ghost use Rattle.cas_script.specs.Refusals.{Then, session_check, bare_check, place_check, IsRefusedVerb, IsRefusedLine};
+ghost use Rattle.cas_script.specs.FirstRefused.{Then, session_check, bare_check, place_check, IsRefusedVerb, IsRefusedLine};
 ghost use Rattle.cas_script.specs.Parsing.{Adds, Begins, Says, IsWhole, sessions_of};
 
 use crate::cut::{count_pieces, cut, speaks};

@@ -10,7 +10,8 @@ use Rattle.command_line.specs.declared.command.Setting.TheVariants.{Workers, Siz
 use Rattle.command_line.specs.declared.words.Given.{Given}
 use Rattle.command_line.proofs.WordLemmas.{first-rest}
 use Rattle.command_line.specs.Splitting.{IsValueOf, IsWith, given_for, given_options, no_settings, with_number}
-use Rattle.command_line.specs.Words.{HaveOptions, IsGiven, IsNumberWithin, IsSet, begins_dash, is_split, operands_at, operands_of, setting_of, split_at, values_at, values_of}
+use Rattle.command_line.specs.Words.{HaveOptions, IsGiven, IsSet, begins_dash, is_split, operands_at, operands_of, setting_of, split_at, values_at, values_of}
+use Rattle.cas_model.specs.Decimal.{IsNumberWithin}
 
 -- ---- one piece
 

@@ -7,13 +7,8 @@ use Rattle.command_line.specs.declared.command.Setting.{Setting}
 use Rattle.command_line.specs.declared.command.Setting.TheVariants.{Workers, Size, Limit}
 use Rattle.command_line.specs.declared.command.Verb.{Verb}
 use Rattle.command_line.specs.declared.words.Given.{Given}
-use Rattle.command_line.specs.Words.{BeginWith, HaveOptions, IsNumberWithin, operands_of}
-
--- one decimal digit, or more bytes of which the first is a digit and not 0
-abbrev pub leads : List ℕ → Bool
-leads [] = false
-leads (digit ∷ []) = nat_le 48 digit && nat_le digit 57
-leads (first ∷ next ∷ bytes) = nat_le 49 first && nat_le first 57
+use Rattle.command_line.specs.Words.{BeginWith, HaveOptions, operands_of}
+use Rattle.cas_model.specs.Decimal.{IsNumberWithin}
 
 -- these words name this command with these options, then come the rest, so many of which are operands
 pub record IsNamed (words : List (String Global)) (verb : Verb) (rest : List (String Global)) (count : ℕ) (options : Options) : Type 0 where

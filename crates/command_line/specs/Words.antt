@@ -1,5 +1,6 @@
 -- The words of a command, those after the program's name: `--cas`, the folder's name, the command's word, and then its operands and
 -- options in any order.
+use Rattle.cas_model.specs.Decimal.{IsNumberWithin}
 use Rattle.std.specs.Prelude.{◌≡◌, ℕ, suc, ◌<◌, ◌≤◌, List, [], ◌∷◌, Bool, true, false, cond, ◌==◌, ◌&&◌, not, Some, None, take, slice_get, length, nat_eq, codes, decimal, unwrap_or, String}
 use Rattle.std.specs.Cmp.Lexicographic.{pointwise}
 use Rattle.std.specs.String.{string_bytes}
@@ -27,12 +28,6 @@ is_word word text = pointwise nat_eq (string_bytes word) text
 -- the folder's name
 abbrev pub dir_of : List (String Global) → Option (String Global)
 dir_of words = slice_get words 1
-
--- the text is this number, in decimal digits without a sign or a leading zero, and the number lies between these
-pub record IsNumberWithin (least most : ℕ) (text : List ℕ) (number : ℕ) : Type 0 where
-  pub digits : text ≡ decimal number
-  pub low : least ≤ number
-  pub high : number ≤ most
 
 -- ---- the command
 

@@ -4,13 +4,14 @@ ghost use Rattle.std.specs.String.{string_bytes};
 ghost use Rattle.std.specs.declared.alloc.Global.{Global};
 ghost use Rattle.command_line.specs.declared.command.Options.{Options};
 ghost use Rattle.command_line.specs.declared.command.Verb.{Verb};
-ghost use Rattle.command_line.specs.Words.{verb_of, begins_dash, setting_of, operands_of, takes, is_key, IsNumberWithin, BeginWith, IsCommand, IsWorkload, HaveOptions, NameNone, IsOperand, IsBadOperand, AreOperands, task_of, Reads};
-ghost use Rattle.command_line.specs.Splitting.{IsNamed, IsWith, given_for, given_options, IsValueOf, leads, no_settings};
+ghost use Rattle.cas_model.specs.Decimal.{IsNumberWithin};
+ghost use Rattle.command_line.specs.Words.{verb_of, begins_dash, setting_of, operands_of, takes, is_key, BeginWith, IsCommand, IsWorkload, HaveOptions, NameNone, IsOperand, IsBadOperand, AreOperands, task_of, Reads};
+ghost use Rattle.command_line.specs.Splitting.{IsNamed, IsWith, given_for, given_options, IsValueOf, no_settings};
 ghost use Rattle.command_line.specs.Refusals.{AreRefused, OperandsRefused};
 
 use crate::command::{Command, Options, Request, Setting, Task, Verb};
 use crate::refusal::{UsageKind, WordsError};
-use cas_model::{Digest, Id, IdError, Refs};
+use cas_model::{Digest, Id, IdError, Refs, number_within};
 use std::alloc::{AllocError, Global};
 
 /// The most references that an object has.
@@ -94,7 +95,7 @@ fn workload(words: &[String]) -> Option<(Verb, &[String])>
     let [value, rest @ ..] = words else {
         return None;
     };
-    let rounds = number_within(value, 1, 10_000)?;
+    let rounds = number_within(value.as_bytes(), 1, 10_000)?;
     Some((Verb::Workload(rounds as u32), rest))
 }
 
@@ -199,34 +200,7 @@ fn once(before: Option<u64>, value: &String, least: u64, most: u64) -> Option<u6
 {
     match before {
         Some(_) => None,
-        None => number_within(value, least, most),
-    }
-}
-
-// The number that a word is, in decimal digits without a sign or a leading zero, if it lies between these.
-fn number_within(word: &String, least: u64, most: u64) -> Option<u64>
-    ensures { MatchOption result ((number : ℕ) → ¬ IsNumberWithin least most (string_bytes word.now) number) (IsNumberWithin least most (string_bytes word.now)) }
-{
-    if !leads(word.as_bytes()) {
-        return None;
-    }
-    let Ok(number) = word.as_str().parse::<u64>() else {
-        return None;
-    };
-    if number < least || most < number {
-        return None;
-    }
-    Some(number)
-}
-
-// Whether a number's digits may begin as these bytes do: with another digit than 0, or they are one digit.
-fn leads(text: &[u8]) -> bool
-    ensures { result ≡ leads text.now }
-{
-    match text {
-        [] => false,
-        [digit] => digit.is_ascii_digit(),
-        [first, ..] => b'1' <= *first && *first <= b'9',
+        None => number_within(value.as_bytes(), least, most),
     }
 }
 

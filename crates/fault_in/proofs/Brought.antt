@@ -34,12 +34,12 @@ use Rattle.cas_port.specs.Calls.{event_of, IsLawful, BoundTo, BindRefused, HasCl
 use Rattle.cas_port.specs.View.{View, Foreign, tables, tables_before, open_words, close_block, IsOpenFor, all_written}
 use Rattle.cas_model.proofs.DataBytes.{bytes-at}
 use Rattle.graph_db.specs.Events.{Goes}
-use Rattle.graph_db.specs.Parts.{AreFilled, IsOpenAlone, block_of, places_in, shut}
+use Rattle.graph_db.specs.Storing.{AreFilled, IsOpenAlone, block_of, places_in, shut}
 use Rattle.graph_db.proofs.Found.{filled-grows, goes-grows}
 use Rattle.graph_db.proofs.Steps.{goes-upstream}
 use Rattle.graph_db.proofs.Written.{all_written-some, length-map-some, words-some}
 use Rattle.fault_in.specs.FaultIn.{Brings, IsRefused}
-use Rattle.fault_in.specs.Parts.{BringStops, HasBrought, HasWords, IsFilledAt, IsReady}
+use Rattle.fault_in.specs.Bringing.{BringStops, HasBrought, HasWords, IsFilledAt, IsReady}
 use Rattle.fault_in.specs.Tree.{AreBringing, IsBelow, missed_since}
 use Rattle.cas_model.specs.Notes.{deep_note}
 use Rattle.fault_in.proofs.Contents.{cell-below, close-head, fill-under, filled-bound, length-places, object-content, open-head, places-grow, refs-below}

@@ -26,7 +26,7 @@ use Rattle.cas_port.specs.declared.block.Block.{Block}
 use Rattle.cas_port.specs.declared.block.OpenBlock.{OpenBlock}
 use Rattle.cas_port.specs.View.{open_words, close_block}
 use Rattle.cas_model.proofs.DataBytes.{bytes-at}
-use Rattle.graph_db.specs.Parts.{AreFilled, places_in, place_number, block_of}
+use Rattle.graph_db.specs.Storing.{AreFilled, places_in, place_number, block_of}
 
 -- ---- the references lie below the claimed block
 

@@ -30,7 +30,7 @@ use Rattle.cas_port.specs.View.{View}
 use Rattle.graph_db.specs.Events.{SpeaksFor}
 use Rattle.graph_db.proofs.Steps.{asked-foreign}
 use Rattle.fault_in.specs.FaultIn.{CostsOfBrought}
-use Rattle.fault_in.specs.Parts.{AsksAtMost, HasWords}
+use Rattle.fault_in.specs.Bringing.{AsksAtMost, HasWords}
 use Rattle.fault_in.specs.Tree.{AreMissing, HasRows}
 use Rattle.cas_model.specs.Notes.{deep_note}
 

@@ -36,7 +36,7 @@ use Rattle.graph_db.proofs.Steps.{foreign-others, goes-speaks, goes-start, goes-
 use Rattle.fault_in.specs.declared.error.FaultInError.{FaultInError}
 use Rattle.fault_in.specs.declared.error.FaultInError.TheVariants.{Full, Memory}
 use Rattle.fault_in.specs.FaultIn.{Brings, Costs, FaultInStops, IsRefused, IsWholeNow, KeepsConduct}
-use Rattle.fault_in.specs.Parts.{AsksAtMost, HasSought, HasTreeIn, IsThere, TreeStops}
+use Rattle.fault_in.specs.Bringing.{AsksAtMost, HasSought, HasTreeIn, IsThere, TreeStops}
 use Rattle.fault_in.specs.Tree.{AreBringing, AreMissing, HasTree, IsBringing, IsNeeded, missed_since}
 use Rattle.cas_model.specs.Notes.{deep_note}
 use Rattle.fault_in.proofs.Brought.{refused-then}

@@ -9,11 +9,11 @@ use Rattle.cas_model.specs.State.{State, HasAll, Leads, Member, Refers, has}
 use Rattle.cas_model.specs.Tables.{Tables, place_of}
 use Rattle.cas_history.proofs.Grown.{Grows}
 use Rattle.cas_port.specs.View.{View, tables}
-use Rattle.graph_db.specs.Parts.{AreFilled, place_number, places_in}
+use Rattle.graph_db.specs.Storing.{AreFilled, place_number, places_in}
 use Rattle.graph_db.proofs.Found.{filled-grows}
 use Rattle.fault_in.specs.declared.walking.Open.{Open}
 use Rattle.fault_in.specs.Open.{HasAdded, IsOpening}
-use Rattle.fault_in.specs.Parts.{IsFilledAt}
+use Rattle.fault_in.specs.Bringing.{IsFilledAt}
 use Rattle.fault_in.specs.Tree.{IsBelow}
 use Rattle.fault_in.proofs.Contents.{places-grow}
 

@@ -18,7 +18,7 @@ use Rattle.fault_in.specs.declared.walking.Open.{Open}
 use Rattle.fault_in.specs.FaultIn.{Brings}
 use Rattle.fault_in.specs.Open.{HasAdded, IsOpening}
 use Rattle.fault_in.specs.Order.{FillsLast, IsQuiet, IsVisited, IsVisitedInPart, Visits, VisitsSome, ends, passes}
-use Rattle.fault_in.specs.Parts.{HasSought}
+use Rattle.fault_in.specs.Bringing.{HasSought}
 use Rattle.fault_in.proofs.Costs.{cell-lacks}
 use Rattle.fault_in.proofs.Steps.{brings-goes}
 use Rattle.fault_in.proofs.Visited.{AreVisiting, opening-visits, order-down, order-filled, order-found, order-out, order-stops, order-up, quiet-self, some-after, visits-after}

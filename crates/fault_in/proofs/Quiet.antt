@@ -22,7 +22,7 @@ use Rattle.cas_port.specs.View.{View, Foreign}
 use Rattle.graph_db.specs.Events.{SpeaksFor}
 use Rattle.graph_db.proofs.Steps.{other-who}
 use Rattle.fault_in.specs.Order.{FillsLast, HasNoFill, IsQuiet, is_fill}
-use Rattle.fault_in.specs.Parts.{HasWords}
+use Rattle.fault_in.specs.Bringing.{HasWords}
 use Rattle.fault_in.proofs.Visited.{quiet-self, quiet-then}
 
 -- ---- events that fill nothing

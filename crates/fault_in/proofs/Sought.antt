@@ -16,7 +16,7 @@ use Rattle.cas_port.specs.Calls.{HasRead, HasRecord, IsLawful, Looked, WantsMemo
 use Rattle.cas_port.specs.View.{View, tables}
 use Rattle.graph_db.specs.Events.{SpeaksFor}
 use Rattle.graph_db.proofs.Found.{goes-grows}
-use Rattle.fault_in.specs.Parts.{AsksAtMost, HasSought, Seeks}
+use Rattle.fault_in.specs.Bringing.{AsksAtMost, HasSought, Seeks}
 use Rattle.cas_model.specs.Notes.{deep_note}
 use Rattle.fault_in.proofs.Costs.{asks-adds, asks-then, asks-wants}
 use Rattle.fault_in.proofs.Steps.{adds-brings, brings-goes, miss-moved, moved-any, moved-then, wants-brings}

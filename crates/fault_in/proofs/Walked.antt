@@ -26,7 +26,7 @@ use Rattle.fault_in.specs.declared.walking.Open.{Open}
 use Rattle.fault_in.specs.Errors.{fault_in_error}
 use Rattle.fault_in.specs.FaultIn.{Brings, Costs, CostsOfBrought}
 use Rattle.fault_in.specs.Open.{HasAdded, IsOpening}
-use Rattle.fault_in.specs.Parts.{AsksAtMost, BringStops, HasBrought, HasSought, HasTreeIn, IsReady, Seeks, TreeStops}
+use Rattle.fault_in.specs.Bringing.{AsksAtMost, BringStops, HasBrought, HasSought, HasTreeIn, IsReady, Seeks, TreeStops}
 use Rattle.fault_in.specs.Tree.{IsBelow}
 use Rattle.fault_in.proofs.Brought.{refused-then}
 use Rattle.fault_in.proofs.Costs.{cell-lacks, costs-self, lacked-before, lacks-row, rows-stay}

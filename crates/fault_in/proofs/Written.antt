@@ -11,9 +11,9 @@ use Rattle.cas_port.specs.declared.block.OpenBlock.{OpenBlock}
 use Rattle.cas_port.specs.Blank.{none_written}
 use Rattle.cas_port.specs.Calls.{IsOpen, HasWritten}
 use Rattle.cas_port.specs.View.{View, open_words, write_word}
-use Rattle.graph_db.specs.Parts.{partly, block_of, IsOpenAlone}
+use Rattle.graph_db.specs.Storing.{partly, block_of, IsOpenAlone}
 use Rattle.graph_db.proofs.Written.{partly-none, length-partly, partly-more, partly-all}
-use Rattle.fault_in.specs.Parts.{HasWords}
+use Rattle.fault_in.specs.Bringing.{HasWords}
 
 -- ---- lists of words
 

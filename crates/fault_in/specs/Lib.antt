@@ -1,6 +1,6 @@
 pub mod Errors
 pub mod Tree
 pub mod FaultIn
-pub mod Parts
+pub mod Bringing
 pub mod Open
 pub mod Order

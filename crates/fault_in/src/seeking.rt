@@ -3,7 +3,7 @@ ghost use Rattle.std.specs.Prelude.{IfOk, OnErr};
 ghost use Rattle.cas_port.specs.Calls.{IsLawful};
 ghost use Rattle.graph_db.specs.Events.{SpeaksFor};
 ghost use Rattle.fault_in.specs.Order.{IsQuiet};
-ghost use Rattle.fault_in.specs.Parts.{AsksAtMost, HasSought, SeekStops};
+ghost use Rattle.fault_in.specs.Bringing.{AsksAtMost, HasSought, SeekStops};
 
 use cas_model::{Digest, Note, Place, Space, Stage, Who};
 use cas_port::{CellPort, Steps};

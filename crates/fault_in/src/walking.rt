@@ -6,11 +6,11 @@ ghost use Rattle.cas_history.specs.Lawful.{IsLawfulRun};
 ghost use Rattle.cas_port.specs.Calls.{IsLawful};
 ghost use Rattle.frozen_store.specs.Seen.{IsSeen};
 ghost use Rattle.graph_db.specs.Events.{SpeaksFor, seen_state};
-ghost use Rattle.graph_db.specs.Parts.{IsLawfulOrSame};
+ghost use Rattle.graph_db.specs.Storing.{IsLawfulOrSame};
 ghost use Rattle.fault_in.specs.FaultIn.{HasFaultedIn, FaultInStops};
 ghost use Rattle.fault_in.specs.Open.{HasAdded, IsOpening};
 ghost use Rattle.fault_in.specs.Order.{IsVisited, IsVisitedInPart};
-ghost use Rattle.fault_in.specs.Parts.{IsThere, HasTreeIn, TreeStops};
+ghost use Rattle.fault_in.specs.Bringing.{IsThere, HasTreeIn, TreeStops};
 
 use crate::FaultInError;
 use crate::seeking::seek;

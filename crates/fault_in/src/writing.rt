@@ -5,9 +5,9 @@ ghost use Rattle.cas_history.specs.Cost.{object_cost};
 ghost use Rattle.cas_port.specs.Blank.{none_written};
 ghost use Rattle.cas_port.specs.Calls.{IsLawful};
 ghost use Rattle.graph_db.specs.Events.{SpeaksFor};
-ghost use Rattle.graph_db.specs.Parts.{IsOpenAlone};
+ghost use Rattle.graph_db.specs.Storing.{IsOpenAlone};
 ghost use Rattle.fault_in.specs.Order.{FillsLast, IsQuiet};
-ghost use Rattle.fault_in.specs.Parts.{AsksAtMost, HasBrought, BringStops, HasWords, IsReady};
+ghost use Rattle.fault_in.specs.Bringing.{AsksAtMost, HasBrought, BringStops, HasWords, IsReady};
 
 use cas_model::{
     Digest, Note, Object, Place, Space, Stage, Who, content_length, data_word, head_word,

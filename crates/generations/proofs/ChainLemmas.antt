@@ -8,7 +8,7 @@ use Rattle.std.proofs.lemmas.List.Sums.{get_or-le-sum_by, sum_by-cons}
 use Rattle.std.proofs.lemmas.List.Elements.{Contains-append_left, Contains-append_right, Contains-append_cases}
 use Rattle.cas_outside.specs.Folder.{Files, ListsNames}
 use Rattle.generations.specs.Chain.{IsHighestBelow, AreTwoHighest, IsListed, HasGeneration, IsToldChain}
-use Rattle.generations.specs.Names.{generation_name, IsNameOf}
+use Rattle.generations.specs.GenerationNames.{generation_name, IsNameOf}
 use Rattle.generations.proofs.NameLemmas.{named-once}
 
 -- ---- one property for another

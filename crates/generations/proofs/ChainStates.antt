@@ -13,7 +13,7 @@ use Rattle.generations.specs.declared.opening.Opened.{Opened}
 use Rattle.generations.specs.Chain.{HasGeneration, IsChain, IsHighestBelow, IsToldChain}
 use Rattle.generations.specs.FolderState.{HasChain, HasState, IsStateOf}
 use Rattle.generations.specs.Laws.{HasNumberedChain, ReadsChain}
-use Rattle.generations.specs.Names.{generation_name}
+use Rattle.generations.specs.GenerationNames.{generation_name}
 use Rattle.generations.specs.Opened.{HasUpstream, IsOpened, IsRead, OpensTo, numbered, primary_number, upstream_number}
 use Rattle.unified_cas.specs.Upstream.{upstream_state}
 use Rattle.generations.proofs.ChainLemmas.{highest-once, raised, two-same}

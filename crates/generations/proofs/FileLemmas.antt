@@ -6,7 +6,7 @@ use Rattle.std.specs.Ordering.{eq_by_cmp, nat_cmp}
 use Rattle.std.specs.FinMap as fin
 use Rattle.cas_outside.specs.Folder.{Files}
 use Rattle.generations.specs.Chain.{HasGeneration}
-use Rattle.generations.specs.Names.{generation_name}
+use Rattle.generations.specs.GenerationNames.{generation_name}
 use Rattle.generations.proofs.NameLemmas.{one-number}
 
 -- ---- names

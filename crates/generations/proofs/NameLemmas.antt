@@ -10,7 +10,7 @@ use Rattle.std.specs.declared.alloc.AllocError.{AllocError}
 use Rattle.std.specs.declared.result.Result.{Result}
 use Rattle.std.specs.Result.{IfErr, IfOk, IsErrAnd, MatchResult, result_ok}
 use Rattle.cas_outside.specs.Folder.{MayAsk, is_name_byte}
-use Rattle.generations.specs.Names.{generation_name, IsNameOf}
+use Rattle.generations.specs.GenerationNames.{generation_name, IsNameOf}
 
 digit-is : (n : ℕ) → n < 10 → is_name_byte (48 + n) ≡ true
 digit-is n small = grind (arith, nat_tests)

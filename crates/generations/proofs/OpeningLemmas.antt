@@ -12,7 +12,7 @@ use Rattle.image_file.specs.declared.error.ImageError.{ImageError}
 use Rattle.image_file.specs.declared.error.ImageError.TheVariants as errors
 use Rattle.image_file.proofs.ImageLemmas.{lawful-read}
 use Rattle.generations.specs.Chain.{IsToldChain}
-use Rattle.generations.specs.Names.{generation_name}
+use Rattle.generations.specs.GenerationNames.{generation_name}
 use Rattle.generations.specs.declared.opening.OpenError.{OpenError}
 use Rattle.generations.specs.declared.opening.OpenError.TheVariants.{Held, FolderFault, Damaged, Memory}
 use Rattle.generations.specs.Opened.{ChainFails, HasDamage, HasImage, IsRead, IsReadable, ReadFails, UpstreamFails, UpstreamIsThere, refusal_of}

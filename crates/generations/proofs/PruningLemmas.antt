@@ -21,7 +21,7 @@ use Rattle.cas_outside.specs.Folder.{Files, HasName, ListsNames, RemovesFile}
 use Rattle.cas_model.specs.State.{State}
 use Rattle.generations.specs.Chain.{AreTwoHighest, HasGeneration, IsChain, IsHighestBelow, IsListed}
 use Rattle.generations.specs.FolderState.{HasChain, IsStateOf}
-use Rattle.generations.specs.Names.{IsNameOf, generation_name}
+use Rattle.generations.specs.GenerationNames.{IsNameOf, generation_name}
 use Rattle.generations.specs.Pruning.{AreLowestUnused, AreUnused, IsUnused, Loses, LosesAll, LosesSome, ToldLosesAll, ToldLosesSome, is_name_among}
 use Rattle.generations.specs.Removing.{AreBelowUpstream, AreOnce, AreToldUnused, ToldLoses}
 use Rattle.generations.proofs.ChainLemmas.{counted, file-listed, listed-before, listed-cases, listed-file, listed-last, nothing-listed, two-same}

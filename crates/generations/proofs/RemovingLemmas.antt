@@ -8,7 +8,7 @@ use Rattle.cas_outside.specs.declared.folder.FolderError.{FolderError}
 use Rattle.cas_outside.specs.declared.folder.FolderError.TheVariants as folder
 use Rattle.generations.specs.declared.saving.SaveError.{SaveError}
 use Rattle.generations.specs.declared.saving.SaveError.TheVariants.{FolderFault, Memory}
-use Rattle.generations.specs.Names.{generation_name}
+use Rattle.generations.specs.GenerationNames.{generation_name}
 use Rattle.generations.specs.Pruning.{Prunes, PrunesTo, ToldLosesAll, ToldLosesSome}
 use Rattle.generations.specs.Removing.{AreToldUnused, HasRemoved, KeepsRest, ListFails, Removes, StopsRemoving, ToldLoses}
 use Rattle.generations.specs.Saved.{save_error_of}

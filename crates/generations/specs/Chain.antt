@@ -3,7 +3,7 @@ use Rattle.std.specs.Prelude.{◌≡◌, ℕ, ◌<◌, ◌≤◌, true, List, So
 use Rattle.std.specs.declared.option.Option.{Option}
 use Rattle.std.specs.FinMap as fin
 use Rattle.cas_outside.specs.Folder.{Files}
-use Rattle.generations.specs.Names.{generation_name, IsNameOf}
+use Rattle.generations.specs.GenerationNames.{generation_name, IsNameOf}
 
 -- the highest number below the bound with the property, and none where there is no such number
 abbrev pub IsHighestBelow : (ℕ → Type 0) → ℕ → Option ℕ → Type 0

@@ -7,7 +7,7 @@ use Rattle.cas_outside.specs.Folder.{Files}
 use Rattle.image_file.specs.Image.{image_bytes}
 use Rattle.region_core.specs.Stands.{AreWords, Stands}
 use Rattle.generations.specs.Chain.{IsChain}
-use Rattle.generations.specs.Names.{generation_name}
+use Rattle.generations.specs.GenerationNames.{generation_name}
 
 -- the generation's file is the image of words that stand for the state
 pub record HasState (files : Files) (number : ℕ) (state : State) : Type 0 where

@@ -8,7 +8,7 @@ use Rattle.image_file.specs.Image.{image_bytes}
 use Rattle.region_core.specs.Stands.{AreWords, Stands}
 use Rattle.generations.specs.declared.opening.Opened.{Opened}
 use Rattle.generations.specs.FolderState.{HasChain}
-use Rattle.generations.specs.Names.{generation_name}
+use Rattle.generations.specs.GenerationNames.{generation_name}
 use Rattle.generations.specs.Opened.{IsOpened, primary_number, upstream_number}
 use Rattle.generations.specs.Pruning.{LosesAll, LosesSome}
 use Rattle.unified_cas.specs.Upstream.{upstream_state}

@@ -1,7 +1,7 @@
 pub use Rattle.unified_cas.specs.Answers
 pub use Rattle.unified_cas.specs.Upstream
 pub use Rattle.unified_cas.specs.Over
-pub mod Names
+pub mod GenerationNames
 pub mod Chain
 pub mod FolderState
 pub mod Opened

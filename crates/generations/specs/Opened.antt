@@ -18,7 +18,7 @@ use Rattle.generations.specs.declared.opening.OpenError.TheVariants.{Held, Folde
 use Rattle.generations.specs.declared.opening.Opened.{Opened}
 use Rattle.generations.specs.Chain.{IsToldChain}
 use Rattle.generations.specs.FolderState.{HasState}
-use Rattle.generations.specs.Names.{generation_name}
+use Rattle.generations.specs.GenerationNames.{generation_name}
 
 -- a folder's error as one of opening
 abbrev pub open_error_of : FolderError → OpenError

@@ -12,7 +12,7 @@ use Rattle.cas_outside.specs.Folder.{Files, FolderView, Later}
 use Rattle.generations.specs.declared.saving.SaveError.{SaveError}
 use Rattle.generations.specs.declared.saving.SaveError.TheVariants.{FolderFault, Memory}
 use Rattle.generations.specs.Chain.{HasGeneration, IsChain}
-use Rattle.generations.specs.Names.{generation_name}
+use Rattle.generations.specs.GenerationNames.{generation_name}
 
 -- a generation that is neither the primary nor the upstream
 pub record IsUnused (files : Files) (number : ℕ) : Type 0 where

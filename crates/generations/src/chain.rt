@@ -2,9 +2,9 @@
 ghost use Rattle.std.specs.Prelude.{◌≡◌, ◌<◌, ◌≤◌, List, ℕ, ◌++◌, ◌∷◌, [], true, unwrap_or, IfOk, IfSome, IfNone};
 ghost use Rattle.cas_outside.specs.Folder.{Stays};
 ghost use Rattle.generations.specs.Chain.{AreTwoHighest, IsListed, IsToldChain};
-ghost use Rattle.generations.specs.Names.{IsNameOf};
+ghost use Rattle.generations.specs.GenerationNames.{IsNameOf};
 
-use crate::names::number_of;
+use crate::generation_names::number_of;
 use cas_outside::{Folder, FolderError, Name};
 
 /// The numbers of the two highest generations, where there are so many.

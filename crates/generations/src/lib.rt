@@ -4,7 +4,7 @@
 
 mod chain;
 mod laws;
-mod names;
+mod generation_names;
 mod opening;
 mod pruning;
 mod rotating;
@@ -14,7 +14,7 @@ pub use laws::{
     opening_reads_the_chain, pruning_keeps_the_chain, rotating_lowers_the_primary,
     saving_keeps_the_upstream,
 };
-pub use names::{name_of, number_of};
+pub use generation_names::{name_of, number_of};
 pub use opening::{OpenError, Opened, open_folder};
 pub use pruning::prune;
 pub use rotating::{needs_rotation, rotate};

@@ -1,11 +1,11 @@
 // A folder's generations, read under its lock.
 ghost use Rattle.std.specs.Prelude.{◌≡◌, ◌≤◌, true, IfOk, IfErr};
 ghost use Rattle.cas_outside.specs.Folder.{Calm, HasName};
-ghost use Rattle.generations.specs.Names.{generation_name};
+ghost use Rattle.generations.specs.GenerationNames.{generation_name};
 ghost use Rattle.generations.specs.Opened.{ChainFails, IsFresh, IsOpened, IsRead, OpenFails, Opens, ReadFails, ReadsUpstream, UpstreamFails, UpstreamIsThere, refusal_of};
 
 use crate::chain::chain_of;
-use crate::names::name_of;
+use crate::generation_names::name_of;
 use cas_outside::{Folder, FolderError};
 use frozen_store::Frozen;
 use image_file::{ImageError, read_image};

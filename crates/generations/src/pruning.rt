@@ -1,12 +1,12 @@
 // The removal of the generations that no run reads any more.
 ghost use Rattle.std.specs.Prelude.{◌≡◌, List, [], true, IfOk, IfErr};
 ghost use Rattle.cas_outside.specs.Folder.{Calm, HasName};
-ghost use Rattle.generations.specs.Names.{generation_name};
+ghost use Rattle.generations.specs.GenerationNames.{generation_name};
 ghost use Rattle.generations.specs.Pruning.{Prunes};
 ghost use Rattle.generations.specs.Removing.{AreBelowUpstream, AreToldUnused, HasRemoved, ListFails, Removes, StopsRemoving};
 
 use crate::chain::Chain;
-use crate::names::name_of;
+use crate::generation_names::name_of;
 use crate::saving::SaveError;
 use cas_outside::{Folder, Name};
 use std::alloc::{AllocError, Global};

@@ -1,6 +1,6 @@
 // A new generation above the primary.
 ghost use Rattle.std.specs.Prelude.{◌≡◌, ◌≤◌, ◌<◌, ◌+◌, ◌↔◌, IsTrue, true};
-ghost use Rattle.generations.specs.Names.{generation_name};
+ghost use Rattle.generations.specs.GenerationNames.{generation_name};
 ghost use Rattle.generations.specs.Rotation.{NeedsRotation};
 ghost use Rattle.generations.specs.Saved.{ChangedOnce, Saves};
 

@@ -1,9 +1,9 @@
 // A generation's file, written under the folder's lock.
 ghost use Rattle.std.specs.Prelude.{◌≡◌, true};
-ghost use Rattle.generations.specs.Names.{generation_name};
+ghost use Rattle.generations.specs.GenerationNames.{generation_name};
 ghost use Rattle.generations.specs.Saved.{ChangedOnce, Saves};
 
-use crate::names::name_of;
+use crate::generation_names::name_of;
 use cas_outside::{Folder, FolderError};
 use std::alloc::{AllocError, Global};
 use thiserror::Error;

@@ -48,7 +48,7 @@ use Rattle.cas_port.specs.View.{View, tables, tables_before, open_words, close_b
 use Rattle.graph_db.specs.Events.{SpeaksFor, Ends, Stops, binds, seen_state}
 use Rattle.graph_db.specs.Stores.{object_with, HasNoRoom}
 use Rattle.cas_model.specs.Notes.{own_note}
-use Rattle.graph_db.specs.Parts.{HasRefs, AreFilled, places_in, place_number, block_of, shut, Writes, WriteStops, Brings, BringStops}
+use Rattle.graph_db.specs.Storing.{HasRefs, AreFilled, places_in, place_number, block_of, shut, Writes, WriteStops, Brings, BringStops}
 use Rattle.graph_db.proofs.Steps.{goes-speaks, goes-upstream, goes-takes, goes-opened, missed-more, claims-before, foreign-before, event-ends, event-last, adds-ends, ends-then, ends-more, wants-stops, then-stops, stops-more}
 use Rattle.graph_db.proofs.Binds.{bound-once, refused-never, room-never, still-bound}
 use Rattle.graph_db.proofs.Sought.{there-more}

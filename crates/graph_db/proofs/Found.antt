@@ -32,7 +32,7 @@ use Rattle.graph_db.specs.Events.{Goes, Reads, Stands, Ends, Last, Stops}
 use Rattle.graph_db.specs.Holds.{MaySeek, HasSought, SeekStops}
 use Rattle.graph_db.specs.Stores.{object_with, IsDangling}
 use Rattle.cas_model.specs.Notes.{ref_note}
-use Rattle.graph_db.specs.Parts.{HasSoughtValue, IsLawfulOrSame, AreFilled, HasRefs, FindsFirst}
+use Rattle.graph_db.specs.Storing.{HasSoughtValue, IsLawfulOrSame, AreFilled, HasRefs, FindsFirst}
 use Rattle.graph_db.proofs.Steps.{reads-self, reads-then, reads-goes, ends-self, ends-then, goes-upstream, goes-opened, lawful-then, then-stops, stops-more}
 use Rattle.graph_db.proofs.Sought.{found-more}
 

@@ -33,7 +33,7 @@ use Rattle.cas_port.specs.View.{View, tables}
 use Rattle.graph_db.specs.Holds.{HasSought, SeekStops}
 use Rattle.cas_model.specs.Notes.{own_note}
 use Rattle.graph_db.specs.Loads.{HasFound, IsMissing, LoadStops}
-use Rattle.graph_db.specs.Parts.{HasSoughtValue, words_or, content_at, IsWholeRecord, AreWholeRecords, HasContent}
+use Rattle.graph_db.specs.Storing.{HasSoughtValue, words_or, content_at, IsWholeRecord, AreWholeRecords, HasContent}
 use Rattle.graph_db.proofs.Steps.{goes-upstream, reads-goes}
 use Rattle.graph_db.proofs.Found.{sought-ends, sought-last, missed-here, seek-stops}
 

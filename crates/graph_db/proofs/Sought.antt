@@ -34,7 +34,7 @@ use Rattle.cas_port.specs.Calls.{event_of, WantsMemory, IsLawful, Looked, HasRea
 use Rattle.cas_port.specs.View.{View, tables, Foreign}
 use Rattle.graph_db.specs.Events.{SpeaksFor, Reads, Stands}
 use Rattle.graph_db.specs.Holds.{MaySeek, SeekStops}
-use Rattle.graph_db.specs.Parts.{HasSoughtValue}
+use Rattle.graph_db.specs.Storing.{HasSoughtValue}
 use Rattle.graph_db.proofs.Steps.{stands-event, foreign-before, readings-foreign, reads-then, asked-readings}
 
 -- ---- what the conduct allows

@@ -25,9 +25,9 @@ use Rattle.graph_db.specs.Errors.{store_error}
 use Rattle.graph_db.specs.Holds.{MaySeek, HasSought, SeekStops}
 use Rattle.graph_db.specs.Stores.{object_with, HasStored, IsForContent, IsForPart, IsRefused}
 use Rattle.cas_model.specs.Notes.{own_note}
-use Rattle.graph_db.specs.Parts.{HasSoughtValue, IsLawfulOrSame, HasRefs, FindsRefs, Brings, BringStops}
+use Rattle.graph_db.specs.Storing.{HasSoughtValue, IsLawfulOrSame, HasRefs, FindsRefs, Brings, BringStops}
 use Rattle.graph_db.proofs.Binds.{reads-never}
-use Rattle.graph_db.proofs.Steps.{goes-speaks, goes-upstream, reads-goes, ends-then, ends-more, then-stops, stops-more}
+use Rattle.graph_db.proofs.Steps.{goes-speaks, goes-upstream, reads-goes, reads-then, ends-then, ends-more, then-stops, stops-more}
 use Rattle.graph_db.proofs.Found.{refs-there, refs-stay, goes-grows, sought-ends, sought-last, missed-here, seek-stops, lawful-same-then, not-zero-test}
 
 module _ (who : Who) (refs : List Digest) (bytes : List ℕ) (digest : Digest) (old mid : View) (is : digest ≡ digest_of refs bytes) (first : FindsRefs who refs old mid) where
@@ -48,6 +48,7 @@ module _ (who : Who) (refs : List Digest) (bytes : List ℕ) (digest : Digest) (
       record {
         is = is;
         there = sym v.sought.there ∙ not-zero-test value some;
+        reads = λ had. reads-then who old mid new first.reads v.sought.reads;
         ends = ends-more who (Store o) (Some (reply.Stored digest)) old new (0 + 0) (object_cost o) (omega arith)
             (ends-then who (Store o) (Some (reply.Stored digest)) old mid new 0 0 (first.ends bytes)
             (sought-ends (own_note who) digest mid new (not (value == 0)) (Store o) (Some (reply.Stored digest)) v.sought may-seek-own says));
@@ -77,22 +78,26 @@ module _ (who : Who) (refs : List Digest) (bytes : List ℕ) (digest : Digest) (
     pub miss-missed : missed now.start who is_own now.seen ≡ true
     miss-missed = missed-here (own_note who) digest mid now is_own refl v.sought
 
+    -- what was missed was not there before
+    never-had : IsLawfulOrSame old mid → has (seen_state old) digest ≡ true → ⊥
+    never-had same before =
+        let run = lawful-same-then old mid now same lawful in
+        let after : has (seen_state now) digest ≡ true = has-stays (tables old) (tables now) digest (sound-run old.upstream old.start old.seen run.was) (goes-grows who old now miss-ends.goes run.is) before in
+        cc (after, v.sought.there)
+
     pub miss-lacks : IsLawfulOrSame old mid → IsBrought old digest → fin.get now.upstream.objects digest ≡ None
     miss-lacks same brought = ap (λ (s : State). fin.get s.objects digest) (goes-upstream who old now miss-ends.goes) ∙ step (fin.get old.upstream.objects digest) refl where
       step : (found : Option Object) → fin.get old.upstream.objects digest ≡ found → fin.get old.upstream.objects digest ≡ None
       step None at = at
-      step (Some o) at =
-          let run = lawful-same-then old mid now same lawful in
-          let before : has (seen_state old) digest ≡ true = brought (ap is_some at) in
-          let after : has (seen_state now) digest ≡ true = has-stays (tables old) (tables now) digest (sound-run old.upstream old.start old.seen run.was) (goes-grows who old now miss-ends.goes run.is) before in
-          cc (after, v.sought.there)
+      step (Some o) at = absurd (never-had same (brought (ap is_some at)))
 
-    pub stored-brought : (new : View) → Brings who (object_with refs bytes) now new → HasStored who (object_with refs bytes) old new digest
-    stored-brought new b =
+    pub stored-brought : IsLawfulOrSame old mid → (new : View) → Brings who (object_with refs bytes) now new → HasStored who (object_with refs bytes) old new digest
+    stored-brought same new b =
         let o : Object = object_with refs bytes in
         record {
           is = is;
           there = subst (λ (d : Digest). has (seen_state new) d ≡ true) (sym is) b.there;
+          reads = λ had. absurd (never-had same had);
           ends = subst (λ (d : Digest). Ends who (Store o) (Some (reply.Stored d)) old new (object_cost o)) (sym is)
               (ends-more who (Store o) (Some (reply.Stored (object_digest o))) old new (0 + 0 + object_cost o) (object_cost o) (omega arith)
               (ends-then who (Store o) (Some (reply.Stored (object_digest o))) old now new (0 + 0) (object_cost o) miss-ends b.ends));

@@ -26,7 +26,7 @@ use Rattle.graph_db.specs.Events.{SpeaksFor, Ends}
 use Rattle.graph_db.specs.Holds.{MaySeek}
 use Rattle.graph_db.specs.Stores.{object_with}
 use Rattle.cas_model.specs.Notes.{ref_note}
-use Rattle.graph_db.specs.Parts.{HasRefs, AreFilled, places_in, place_number, partly, block_of, IsOpenAlone, shut, Writes, WriteStops}
+use Rattle.graph_db.specs.Storing.{HasRefs, AreFilled, places_in, place_number, partly, block_of, IsOpenAlone, shut, Writes, WriteStops}
 use Rattle.graph_db.proofs.Steps.{ends-self, ends-then, reads-goes, goes-speaks, goes-takes, asked-readings}
 use Rattle.graph_db.proofs.Sought.{looked-reads, looked-stands}
 use Rattle.graph_db.proofs.Found.{goes-grows, refs-stay, may-seek-ref}

@@ -3,4 +3,4 @@ pub mod Errors
 pub mod Holds
 pub mod Stores
 pub mod Loads
-pub mod Parts
+pub mod Storing

@@ -23,10 +23,11 @@ use Rattle.graph_db.specs.Events.{Ends, Last, Reads, Stops, binds, seen_state}
 abbrev pub object_with : List Digest → List ℕ → Object
 object_with refs bytes = record { refs = refs; «data» = bytes }
 
--- the call is decided by Stored, and the primary has the digest
+-- the call is decided by Stored, and the primary has the digest. What was there already has only been looked for and read
 pub record HasStored (who : Who) (o : Object) (old new : View) (digest : Digest) : Type 0 where
   pub is : digest ≡ object_digest o
   pub there : has (seen_state new) digest ≡ true
+  pub reads : has (seen_state old) digest ≡ true → Reads who old new
   pub ends : Ends who (Store o) (Some (reply.Stored digest)) old new (object_cost o)
   pub last : Last (own_note who) (Store o) (Some (reply.Stored digest)) new
 

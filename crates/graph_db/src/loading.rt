@@ -6,7 +6,7 @@ ghost use Rattle.cas_port.specs.Calls.{IsLawful};
 ghost use Rattle.cas_port.specs.View.{tables};
 ghost use Rattle.graph_db.specs.Events.{SpeaksFor};
 ghost use Rattle.graph_db.specs.Loads.{HasLoaded, LoadStops};
-ghost use Rattle.graph_db.specs.Parts.{HasContent, IsWholeRecord, content_at};
+ghost use Rattle.graph_db.specs.Storing.{HasContent, IsWholeRecord, content_at};
 
 use crate::seeking::seek;
 use cas_model::{Data, Digest, Note, Object, Place, Refs, Stage, Who, split_head};

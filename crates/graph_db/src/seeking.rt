@@ -2,7 +2,7 @@
 ghost use Rattle.std.specs.Prelude.{◌≡◌, IfOk, OnErr};
 ghost use Rattle.cas_port.specs.Calls.{IsLawful, Speaks};
 ghost use Rattle.graph_db.specs.Holds.{HasSought, SeekStops};
-ghost use Rattle.graph_db.specs.Parts.{HasSoughtValue};
+ghost use Rattle.graph_db.specs.Storing.{HasSoughtValue};
 
 use cas_model::{Digest, Note, Space};
 use cas_port::{CellPort, Steps};

@@ -10,7 +10,7 @@ ghost use Rattle.cas_port.specs.Blank.{none_written};
 ghost use Rattle.cas_port.specs.Calls.{IsLawful, Looked, Speaks, WantsMemory};
 ghost use Rattle.cas_port.specs.View.{tables};
 ghost use Rattle.graph_db.specs.Events.{IsBrought, SpeaksFor};
-ghost use Rattle.graph_db.specs.Parts.{HasRefs, FindsRefs, IsLawfulOrSame, IsRefusedFor, Brings, BringStops, IsOpenAlone, Writes, WriteStops, places_in};
+ghost use Rattle.graph_db.specs.Storing.{HasRefs, FindsRefs, IsLawfulOrSame, IsRefusedFor, Brings, BringStops, IsOpenAlone, Writes, WriteStops, places_in};
 ghost use Rattle.graph_db.specs.Stores.{HasStored, IsRefused, object_with};
 
 use crate::StoreError;

@@ -8,8 +8,8 @@ use Rattle.cas_model.specs.Object.{object_digest}
 use Rattle.region_core.specs.Leads.{IsRecordOf, digest_there, cell_there, object_there}
 use Rattle.region_check.specs.declared.least.Leasts.{Leasts}
 use Rattle.region_check.specs.declared.least.Rows.{Rows}
-use Rattle.region_check.specs.declared.row.Row.{Row}
-use Rattle.region_check.specs.declared.row.Row.TheVariants as rows
+use Rattle.region_check.specs.declared.slot_flaws.Row.{Row}
+use Rattle.region_check.specs.declared.slot_flaws.Row.TheVariants as rows
 use Rattle.region_check.specs.Flaws.{IsReached, IsTooLong, BadLength, BadDigest}
 use Rattle.region_check.specs.Passes.{RowOf}
 use Rattle.region_check.specs.Roles.{AreRoles, IsCellRole}

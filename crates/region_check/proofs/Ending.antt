@@ -15,7 +15,7 @@ use Rattle.frozen_store.specs.Seen.{HasState}
 use Rattle.std.specs.Prelude.{MatchOption}
 use Rattle.region_check.specs.declared.flaw.Flaw.{Flaw}
 use Rattle.region_check.specs.declared.flaw.FlawKind.{FlawKind}
-use Rattle.region_check.specs.declared.row.Row.{Row}
+use Rattle.region_check.specs.declared.slot_flaws.Row.{Row}
 use Rattle.region_check.specs.Flaws.{BadDigest, HasKind, turn, IsFirstFlaw}
 use Rattle.region_check.specs.Passes.{RowOf, HasNoneBefore, HasHeader}
 use Rattle.region_check.specs.Roles.{AreRoles}

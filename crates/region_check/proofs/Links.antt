@@ -10,8 +10,8 @@ use Rattle.cas_model.specs.Trie.{path, index_of}
 use Rattle.region_core.specs.Leads.{NamesTableAt, NamesRecordAt, Leads, IsSlot, digest_there}
 use Rattle.region_core.specs.Words.{width}
 use Rattle.region_check.specs.declared.reach.Table.{Table}
-use Rattle.region_check.specs.declared.row.Row.{Row}
-use Rattle.region_check.specs.declared.row.Row.TheVariants as rows
+use Rattle.region_check.specs.declared.slot_flaws.Row.{Row}
+use Rattle.region_check.specs.declared.slot_flaws.Row.TheVariants as rows
 use Rattle.region_check.specs.Flaws.{IsSlotOf, IsNoSlot, NamesOutside, BadSlot, BadRange, BadPath, BadValue, IsShared}
 use Rattle.region_check.specs.Passes.{RowOf, HasNoneBefore}
 use Rattle.region_check.specs.Reach.{slots_of, table_of, AreTables}

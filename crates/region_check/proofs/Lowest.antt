@@ -7,8 +7,8 @@ use Rattle.cas_model.specs.declared.place.Space.TheVariants.{Objects, Actions}
 use Rattle.region_check.specs.declared.least.Leasts.{Leasts}
 use Rattle.region_check.specs.declared.least.Rows.{Rows}
 use Rattle.region_check.specs.declared.reach.Table.{Table}
-use Rattle.region_check.specs.declared.row.Row.{Row}
-use Rattle.region_check.specs.declared.row.Row.TheVariants as rows
+use Rattle.region_check.specs.declared.slot_flaws.Row.{Row}
+use Rattle.region_check.specs.declared.slot_flaws.Row.TheVariants as rows
 use Rattle.region_check.specs.Reach.{slots_of, table_of}
 use Rattle.region_check.specs.Shown.{LeastWhere, LeastOfEach, Shown, TableShown, TrieShown, lower_of}
 use Rattle.region_check.proofs.Rows.{least_same}

@@ -10,8 +10,8 @@ use Rattle.region_core.specs.Leads.{NamesTableAt, NamesRecordAt, Leads, IsFilled
 use Rattle.region_check.specs.declared.least.Leasts.{Leasts}
 use Rattle.region_check.specs.declared.least.Rows.{Rows}
 use Rattle.region_check.specs.declared.reach.Table.{Table}
-use Rattle.region_check.specs.declared.row.Row.{Row}
-use Rattle.region_check.specs.declared.row.Row.TheVariants as rows
+use Rattle.region_check.specs.declared.slot_flaws.Row.{Row}
+use Rattle.region_check.specs.declared.slot_flaws.Row.TheVariants as rows
 use Rattle.region_check.specs.Flaws.{IsNoSlot, NamesOutside, IsCellOutside, IsTooLong, IsStray, IsReferenceWord, IsReached}
 use Rattle.region_check.specs.Passes.{HasNoneBefore}
 use Rattle.region_check.specs.Reach.{slots_of, table_of, AreTables}

@@ -9,7 +9,7 @@ ghost use Rattle.region_check.specs.Shown.{LeastWhere, LeastOfEach, ContentShown
 
 use crate::contents::{absent_reference, high_reference, is_too_long, stray};
 use crate::least::{Leasts, Rows, lower};
-use crate::row::Row;
+use crate::slot_flaws::Row;
 use crate::sum::content_digest;
 use region_core::record_digest;
 

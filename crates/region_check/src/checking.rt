@@ -9,10 +9,10 @@ ghost use Rattle.region_check.specs.Shown.{LeastWhere, AreTries, IsOfContents, I
 use crate::cells::{least_in_contents, leasts_in_contents};
 use crate::header::head_flaw;
 use crate::least::{Leasts, Tries, least_in_slots, least_value};
-use crate::names::word_at;
+use crate::naming::word_at;
 use crate::reach::reach;
 use crate::roles::roles_of;
-use crate::row::Row;
+use crate::slot_flaws::Row;
 use crate::sum::content_digest;
 use crate::sweep::sweep_words;
 use crate::{CheckError, Flaw, FlawKind};

@@ -6,9 +6,9 @@ ghost use Rattle.region_core.specs.Leads.{IsFilledOf, digest_there, object_there
 ghost use Rattle.region_check.specs.Flaws.{IsTooLong, IsStray, IsReferenceWord, refs_told, bytes_told, end_told};
 ghost use Rattle.region_check.specs.Roles.{AreRoles};
 ghost use Rattle.region_check.specs.Shown.{LeastWhere, ContentShown, IsReadyFor};
-ghost use Rattle.region_check.specs.declared.row.Row.TheVariants as rows;
+ghost use Rattle.region_check.specs.declared.slot_flaws.Row.TheVariants as rows;
 
-use crate::names::word_at;
+use crate::naming::word_at;
 use region_core::split_head;
 
 /// The place after a content's last word, as its head tells.

@@ -7,7 +7,7 @@ ghost use Rattle.region_check.specs.Passes.{RowOf, HasNoneBefore};
 ghost use Rattle.region_check.specs.Roles.{AreRoles};
 
 use crate::reach::Table;
-use crate::row::{Row, flaw_at};
+use crate::slot_flaws::{Row, flaw_at};
 use cas_model::Space;
 
 /// The tables of both tries.

@@ -7,11 +7,11 @@ mod contents;
 mod flaw;
 mod header;
 mod least;
-mod names;
+mod naming;
 mod paths;
 mod reach;
 mod roles;
-mod row;
+mod slot_flaws;
 mod sum;
 mod sweep;
 

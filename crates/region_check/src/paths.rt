@@ -2,7 +2,7 @@
 ghost use Rattle.std.specs.Prelude.{◌≡◌, ℕ, ◌<◌, ◌≤◌, length, IsTrue, ◌↔◌};
 ghost use Rattle.region_check.specs.Shown.{LeadsTo};
 
-use crate::names::table_at;
+use crate::naming::table_at;
 use cas_model::{Digest, Space};
 use region_core::{index_at, root_of};
 

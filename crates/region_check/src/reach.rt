@@ -3,7 +3,7 @@ ghost use Rattle.std.specs.Prelude.{◌≡◌, ℕ, ◌+◌, ◌<◌, ◌≤◌,
 ghost use Rattle.region_core.specs.Words.{root};
 ghost use Rattle.region_check.specs.Reach.{slots_of, EnteredSlot, Entered, AreTables};
 
-use crate::names::table_at;
+use crate::naming::table_at;
 use cas_model::Space;
 use region_core::root_of;
 use std::alloc::{AllocError, AllocFailed, Global};

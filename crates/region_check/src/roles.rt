@@ -5,7 +5,7 @@ ghost use Rattle.region_check.specs.Roles.{AreRoles, AreUnclaimed, Adds, NamesCe
 ghost use Rattle.region_check.specs.Shown.{AreTries};
 
 use crate::least::Tries;
-use crate::names::record_at;
+use crate::naming::record_at;
 use crate::reach::Table;
 use cas_model::Space;
 use std::alloc::{AllocError, Global};

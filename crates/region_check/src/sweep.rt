@@ -9,8 +9,8 @@ ghost use Rattle.region_check.specs.Sweep.{BlockMarked, OneSwept, CellSwept};
 use crate::cells::least_in_cell;
 use crate::contents::{end_of, is_too_long};
 use crate::least::lower;
-use crate::names::{record_at, table_at};
-use crate::row::Row;
+use crate::naming::{record_at, table_at};
+use crate::slot_flaws::Row;
 
 /// The least places that a sweep finds: of a content that is too long, and of a word that lies in two blocks.
 #[derive(Clone, Copy)]

@@ -1,4 +1,5 @@
 pub mod CallsMade
+pub mod ReadOnly
 pub mod Stood
 pub mod Turned
 pub mod Ordered

@@ -8,12 +8,13 @@ use Rattle.cas_port.specs.Calls.{IsLawful}
 use Rattle.cas_port.specs.View.{View}
 use Rattle.unified_cas.specs.declared.unified.Unified.{Unified}
 use Rattle.unified_cas.specs.Upstream.{upstream_state}
-use Rattle.graph_db.specs.Parts.{IsLawfulOrSame}
+use Rattle.graph_db.specs.Storing.{IsLawfulOrSame}
 use Rattle.graph_db.proofs.Found.{lawful-same-then}
 use Rattle.cas_script.specs.declared.script.Line.{Line}
 use Rattle.cas_script.specs.Lines.{history_line}
 use Rattle.sessions.specs.Standing.{IsReady, StandsAt, HasRunFrom, HasStoppedFrom, before_line, HasRunSession, HasStoppedSession}
 use Rattle.sessions.specs.Turns.{history_lines, IsUnseen, AddsOfThese}
+use Rattle.sessions.proofs.ReadOnly.{others-read}
 use Rattle.sessions.proofs.Stood.{adds-self, adds-then, leaves-then, stands-unseen}
 
 -- the first of the lines ran and were answered by these replies
@@ -37,7 +38,7 @@ drop-all (a ∷ xs) (suc i) h = drop-all xs i (omega (arith, h))
 pub lines-none : (session : ℕ) (lines : List Line) (a : View) → IsUnseen a session → HaveRunLines session lines 0 [] a a
 lines-none session lines a unseen = record {
   adds = adds-self (λ n. n ≡ session) a;
-  stands = record { entries = []; stands = stands-unseen a session (history_lines lines) unseen.unseen; place = refl; replied = refl };
+  stands = record { entries = []; stands = stands-unseen a session (history_lines lines) unseen.unseen; place = refl; replied = refl; quiet = λ need. others-read session a.seen unseen.unseen };
   few = omega arith;
   lawful = inl refl;
 }

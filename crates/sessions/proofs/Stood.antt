@@ -10,7 +10,9 @@ use Rattle.cas_model.specs.declared.call.Reply.TheVariants as reply
 use Rattle.cas_model.specs.declared.call.Who.{Who}
 use Rattle.cas_model.specs.declared.digest.Digest.{Digest}
 use Rattle.cas_model.specs.declared.object.Object.{Object}
+use Rattle.cas_model.specs.Primary.{primary}
 use Rattle.cas_model.specs.Step.{Entry}
+use Rattle.cas_model.specs.Tables.{Tables}
 use Rattle.cas_history.specs.declared.event.Event.{Event}
 use Rattle.cas_history.specs.Conduct.{CallOpen}
 use Rattle.cas_history.specs.Cost.{asked, IsWithinCost}
@@ -22,6 +24,9 @@ use Rattle.cas_port.specs.declared.block.OpenBlock.{OpenBlock}
 use Rattle.cas_port.specs.View.{View}
 use Rattle.graph_db.specs.Events.{AreOf, CallDecided, Goes}
 use Rattle.unified_cas.specs.Answers.{Answers, Stops}
+use Rattle.unified_cas.specs.Reading.{NeedsNoChange}
+use Rattle.sessions.specs.Reading.{NeedNoChange}
+use Rattle.sessions.proofs.ReadOnly.{reads-more}
 use Rattle.sessions.specs.declared.said.Said.{Said}
 use Rattle.sessions.specs.declared.said.Said.TheVariants as said
 use Rattle.graph_db.specs.Stores.{object_with}
@@ -197,6 +202,10 @@ made-stands session call before after a b it h lines at speaks next stands =
       stands = answered-stands a b session lines stands.entries call h.reply stands.stands (ap call_at stands.place ∙ next) speaks
           (subst (λ (n : ℕ). Answers (call_number session n) call h.reply a b) many h.answers);
       place = ap (λ (p : At). moved p h.reply) stands.place;
+      quiet = λ need.
+          let start = ap (λ (v : View). v.start) h.answers.goes.is in
+          reads-more (call_number session (length before)) session a b speaks (h.quiet (subst (λ (t : Tables). NeedsNoChange (primary t) call h.reply) start need.0))
+          (stands.quiet (subst (λ (t : Tables). NeedNoChange (primary t) stands.entries) start need.1));
       replied = h.kept.added ∙ ap (λ (rs : List Reply). rs ++ h.reply ∷ []) stands.replied;
     }
 

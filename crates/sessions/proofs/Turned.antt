@@ -6,7 +6,9 @@ use Rattle.std.proofs.lemmas.Option.{slice_get_within, slice_get_cases}
 use Rattle.cas_model.specs.declared.call.Call.{Call}
 use Rattle.cas_model.specs.declared.call.Reply.{Reply}
 use Rattle.cas_model.specs.declared.call.Who.{Who}
+use Rattle.cas_model.specs.Primary.{primary}
 use Rattle.cas_model.specs.Step.{Entry}
+use Rattle.cas_model.specs.Tables.{Tables}
 use Rattle.cas_history.specs.declared.event.Event.{Event}
 use Rattle.cas_history.specs.History.{history, CountUp}
 use Rattle.cas_history.specs.Laws.{AreOfOtherSessions}
@@ -16,9 +18,11 @@ use Rattle.cas_history.proofs.Indexes.{count-up}
 use Rattle.cas_port.specs.View.{View}
 use Rattle.sessions.specs.declared.replies.SessionReplies.{SessionReplies}
 use Rattle.cas_script.specs.declared.script.Session.{Session}
+use Rattle.sessions.specs.Reading.{NeedNoChange, OnlyReads}
 use Rattle.sessions.specs.Standing.{Part, calls_of, decided_part, made_in, Knows, IsNext, Stands, HasRunSession, HasStoppedSession}
 use Rattle.sessions.specs.Turns.{entries_in, replies_of, history_lines, IsUnseen, AreUnseen, AddsOfThese, LeavesOfThese, FollowsLines, FollowScript, HaveRun, HaveStopped}
 use Rattle.sessions.proofs.CallsMade.{none-conduct, get-split, calls-many, one-longer, counted}
+use Rattle.sessions.proofs.ReadOnly.{others-more, others-read}
 use Rattle.sessions.proofs.Stood.{adds-self, adds-then, adds-more, adds-leaves, leaves-then, leaves-more, others-stand, others-of, stands-unseen}
 
 -- ---- one map of calls
@@ -69,6 +73,7 @@ pub record HaveTurned (sessions : List Session) (count : ℕ) (replies : List Se
   pub adds : AddsOfThese (λ n. n < count) a v
   pub plan : ℕ → Part
   pub stands : (n : ℕ) (session : Session) → slice_get sessions n ≡ Some session → Stands v n (history_lines session.lines) (plan n)
+  pub quiet : (n : ℕ) (session : Session) → slice_get sessions n ≡ Some session → NeedNoChange (primary v.start) (plan n).entries → OnlyReads n v.seen
   pub later : (n : ℕ) → count ≤ n → plan n ≡ decided_part []
   pub many : length replies ≡ count
   pub each : (n : ℕ) (session : Session) (own : SessionReplies) → slice_get sessions n ≡ Some session → slice_get replies n ≡ Some own
@@ -79,6 +84,7 @@ turned-none sessions a unseen = record {
   adds = adds-self (λ n. n < 0) a;
   plan = λ n. decided_part [];
   stands = λ n session is. stands-unseen a n (history_lines session.lines) (unseen.each n (slice_get_within sessions n session is)).unseen;
+  quiet = λ n session is need. others-read n a.seen (unseen.each n (slice_get_within sessions n session is)).unseen;
   later = λ n past. refl;
   many = refl;
   each = λ n session own is none. absurd (none-there none);
@@ -130,6 +136,23 @@ stand-on sessions count plan part v w session is stands speaks leaves own n s th
       (others-stand (λ m. m ≡ count) v w n (history_lines s.lines) (plan n) leaves (speaks n s there) other (stands n s there))
 ]
 
+-- each that only looked and read goes on to do so, and this one too
+quiet-on : (sessions : List Session) (count : ℕ) (plan : ℕ → Part) (entries : List Entry) (v w : View) (session : Session) → slice_get sessions count ≡ Some session
+    → ((n : ℕ) (s : Session) → slice_get sessions n ≡ Some s → NeedNoChange (primary v.start) (plan n).entries → OnlyReads n v.seen) → ((n : ℕ) (s : Session) → slice_get sessions n ≡ Some s → v.speaks n ≡ true)
+    → AddsOfThese (λ n. n ≡ count) v w → (NeedNoChange (primary w.start) entries → OnlyReads count w.seen)
+    → (n : ℕ) (s : Session) → slice_get sessions n ≡ Some s → NeedNoChange (primary w.start) (with_part plan count (decided_part entries) n).entries → OnlyReads n w.seen
+quiet-on sessions count plan entries v w session is quiet speaks adds own n s there need = elim (cases_eq n count) [
+  | inl same ↦
+      let its : with_part plan count (decided_part entries) n ≡ decided_part entries = ap (with_part plan count (decided_part entries)) same ∙ at-part plan count (decided_part entries) in
+      subst (λ (k : ℕ). OnlyReads k w.seen) (sym same) (own (subst (λ (p : Part). NeedNoChange (primary w.start) p.entries) its need))
+  | inr other ↦
+      let its : with_part plan count (decided_part entries) n ≡ plan n = off-part plan count (decided_part entries) n other in
+      let before : NeedNoChange (primary v.start) (plan n).entries =
+      subst (λ (t : Tables). NeedNoChange (primary t) (plan n).entries) (ap (λ (x : View). x.start) adds.is) (subst (λ (p : Part). NeedNoChange (primary w.start) p.entries) its need) in
+      subst (λ (x : View). OnlyReads n x.seen) (sym adds.is)
+      (others-more n adds.more v.seen (others-of v.speaks (λ m. m ≡ count) n adds.more (speaks n s there) other adds.own) (quiet n s there before))
+]
+
 turned-speaks : (sessions : List Session) (count : ℕ) (a v : View) → AreUnseen a (length sessions) → AddsOfThese (λ n. n < count) a v → (n : ℕ) (s : Session) → slice_get sessions n ≡ Some s
     → v.speaks n ≡ true
 turned-speaks sessions count a v unseen adds n s is = ap (λ (w : View). w.speaks n) adds.is ∙ (unseen.each n (slice_get_within sessions n s is)).speaks
@@ -145,6 +168,7 @@ turned-next sessions count replies a v w session own unseen turned is ran =
           (adds-more (λ n. n ≡ count) (λ n. n < suc count) v w (λ n same. omega (arith, same)) ran.adds);
       plan = with_part turned.plan count part;
       stands = goes;
+      quiet = quiet-on sessions count turned.plan ran.stands.entries v w session is turned.quiet (turned-speaks sessions count a v unseen turned.adds) ran.adds ran.stands.quiet;
       later = λ n past. off-part turned.plan count part n (λ same. omega (arith, same, past)) ∙ turned.later n (omega (arith, past));
       many = one-longer replies own ∙ ap suc turned.many;
       each = λ n s its there at. answered n s its there at;
@@ -189,6 +213,7 @@ turned-all sessions replies a v turned = record {
       record {
         are = said.0 ∙ ap replies_of (sym are);
         complete = subst (IsComplete (history_lines s.lines)) (sym are) said.1;
+        quiet = λ need. turned.quiet n s is (subst (NeedNoChange (primary v.start)) are need);
       };
 }
 

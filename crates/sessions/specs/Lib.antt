@@ -3,7 +3,7 @@ pub use Rattle.cas_script.specs.Verbs
 pub use Rattle.cas_script.specs.Arguments
 pub use Rattle.cas_script.specs.Lines
 pub use Rattle.cas_script.specs.Grammar
-pub use Rattle.cas_script.specs.Refusals
+pub use Rattle.cas_script.specs.FirstRefused
 pub use Rattle.cas_script.specs.Parsing
 pub use Rattle.cas_script.specs.Limits
 pub mod Turns
@@ -13,3 +13,4 @@ pub mod Rendering
 pub use Rattle.cas_script.specs.Workload
 pub use Rattle.cas_script.specs.Single
 pub mod Summary
+pub mod Reading

@@ -7,6 +7,7 @@ use Rattle.cas_model.specs.declared.call.Reply.TheVariants as reply
 use Rattle.cas_model.specs.declared.call.Who.{Who}
 use Rattle.cas_model.specs.declared.digest.Digest.{Digest}
 use Rattle.cas_model.specs.declared.object.Object.{Object}
+use Rattle.cas_model.specs.Primary.{primary}
 use Rattle.cas_model.specs.Step.{Entry}
 use Rattle.cas_history.specs.Conduct.{HasConduct}
 use Rattle.cas_history.specs.Cost.{asked, IsWithinCost}
@@ -14,9 +15,12 @@ use Rattle.cas_history.specs.Script.{At, Before, Missed, Line, Follows, at_after
 use Rattle.cas_port.specs.View.{View}
 use Rattle.unified_cas.specs.declared.unified.Unified.{Unified}
 use Rattle.unified_cas.specs.Answers.{Answers, Stops}
+use Rattle.unified_cas.specs.Reading.{NeedsNoChange}
 use Rattle.unified_cas.specs.Upstream.{upstream_state}
+use Rattle.graph_db.specs.Events.{Reads}
 use Rattle.sessions.specs.declared.said.Said.{Said}
 use Rattle.sessions.specs.declared.said.Said.TheVariants as said
+use Rattle.sessions.specs.Reading.{NeedNoChange, OnlyReads}
 use Rattle.sessions.specs.Turns.{call_number, entries_in, replies_of, AddsOfThese, LeavesOfThese}
 
 -- ---- the calls of a session
@@ -55,7 +59,7 @@ IsNext at (Some call) = call_at at ≡ Some call
 -- ---- where a session stands
 
 -- The session has made these calls after these lines: for each map that knows them, its events have conduct and its entries are these.
--- Their claims ask for at most their costs, and no later call has asked for anything
+-- Their claims ask for at most their costs, and no later call has asked for anything.
 pub record Stands (v : View) (session : ℕ) (lines : List Line) (part : Part) : Type 0 where
   pub conduct : (calls : Who → Option Call) → Knows calls session (made_in part) → HasConduct v.upstream v.start calls session v.seen
   pub are : (calls : Who → Option Call) → Knows calls session (made_in part) → entries_in v calls session ≡ part.entries
@@ -64,12 +68,14 @@ pub record Stands (v : View) (session : ℕ) (lines : List Line) (part : Part) :
   pub follows : Follows lines part.entries
   pub next : IsNext (at_after lines part.entries) part.pending
 
--- the session stands at this place of its lines, with these replies, and each of its calls is decided
+-- the session stands at this place of its lines, with these replies, and each of its calls is decided. Where they needed no change over the start, it has
+-- only looked and read
 pub record StandsAt (v : View) (session : ℕ) (lines : List Line) (at : At) (replies : List Reply) : Type 0 where
   pub entries : List Entry
   pub stands : Stands v session lines (decided_part entries)
   pub place : at_after lines entries ≡ at
   pub replied : replies ≡ replies_of entries
+  pub quiet : NeedNoChange (primary v.start) entries → OnlyReads session v.seen
 
 -- the session stands somewhere
 pub record StandsStill (v : View) (session : ℕ) (lines : List Line) : Type 0 where
@@ -99,11 +105,12 @@ pub record HasKept (reply : Reply) (before : List Reply) (said : Said) (after : 
   pub says : said ≡ said_by reply
   pub added : after ≡ before ++ reply ∷ []
 
--- the session's next call was answered, and the reply was added to those before it
+-- the session's next call was answered, and the reply was added to those before it. Where it needed no change over the start, it has only looked and read
 pub record HasMade (session : ℕ) (call : Call) (before : List Reply) (old : View) (said : Said) (after : List Reply) (new : View) : Type 0 where
   pub reply : Reply
   pub kept : HasKept reply before said after
   pub answers : Answers (call_number session (length before)) call reply old new
+  pub quiet : NeedsNoChange (primary old.start) call reply → Reads (call_number session (length before)) old new
 
 -- the session's next call was not answered, or there was no memory for its reply
 abbrev pub IsCutOff : ℕ → Call → List Reply → View → View → Type 0

@@ -4,6 +4,7 @@ use Rattle.std.specs.declared.option.Option.{Option}
 use Rattle.cas_model.specs.declared.call.Call.{Call}
 use Rattle.cas_model.specs.declared.call.Reply.{Reply}
 use Rattle.cas_model.specs.declared.call.Who.{Who}
+use Rattle.cas_model.specs.Primary.{primary}
 use Rattle.cas_model.specs.Step.{Entry}
 use Rattle.cas_history.specs.declared.event.Event.{Event}
 use Rattle.cas_history.specs.Conduct.{HasConduct}
@@ -17,6 +18,7 @@ use Rattle.sessions.specs.declared.replies.SessionReplies.{SessionReplies}
 use Rattle.cas_script.specs.declared.script.Line.{Line}
 use Rattle.cas_script.specs.declared.script.Session.{Session}
 use Rattle.cas_script.specs.Lines.{history_line}
+use Rattle.sessions.specs.Reading.{NeedNoChange, OnlyReads}
 
 -- ---- before the run
 
@@ -87,10 +89,12 @@ pub record FollowScript (sessions : List Session) (calls : Who → Option Call) 
   pub known : (who : Who) → length sessions ≤ who.session → calls who ≡ None
   pub each : (n : ℕ) (session : Session) → slice_get sessions n ≡ Some session → FollowsLines v calls n (history_lines session.lines)
 
--- these are the replies of the session's calls, after which no call comes
+-- these are the replies of the session's calls, after which no call comes. Where they needed no change over the start, the session has only looked and
+-- read
 pub record IsAnswered (v : View) (calls : Who → Option Call) (session : ℕ) (lines : List script.Line) (replies : List Reply) : Type 0 where
   pub are : replies ≡ replies_of (entries_in v calls session)
   pub complete : script.IsComplete lines (entries_in v calls session)
+  pub quiet : NeedNoChange (primary v.start) (entries_in v calls session) → OnlyReads session v.seen
 
 -- the sessions ran: they added events of their own, for one map of calls, and each was answered to its end
 pub record HaveRun (sessions : List Session) (replies : List SessionReplies) (old new : View) : Type 0 where

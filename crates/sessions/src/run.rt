@@ -1,7 +1,7 @@
 // Running sessions in turn.
 ghost use Rattle.std.specs.Prelude.{◌≡◌, ◌<◌, length, option_copied, IfOk, OnErr};
 ghost use Rattle.unified_cas.specs.Upstream.{upstream_state};
-ghost use Rattle.graph_db.specs.Parts.{IsLawfulOrSame};
+ghost use Rattle.graph_db.specs.Storing.{IsLawfulOrSame};
 ghost use Rattle.cas_script.specs.Limits.{FitsScript};
 ghost use Rattle.sessions.specs.Order.{AddsInTurn};
 ghost use Rattle.sessions.specs.Turns.{AreUnseen, HaveRun, HaveStopped};

@@ -1,7 +1,7 @@
 // Running one session.
 ghost use Rattle.std.specs.Prelude.{◌≡◌, option_copied, IfOk, OnErr};
 ghost use Rattle.unified_cas.specs.Upstream.{upstream_state};
-ghost use Rattle.graph_db.specs.Parts.{IsLawfulOrSame};
+ghost use Rattle.graph_db.specs.Storing.{IsLawfulOrSame};
 ghost use Rattle.cas_script.specs.Limits.{FitsSession};
 ghost use Rattle.sessions.specs.Standing.{HasRunSession, HasStoppedSession};
 ghost use Rattle.sessions.specs.Turns.{IsUnseen, history_lines};

@@ -31,7 +31,7 @@ use Rattle.fault_in.proofs.Called.{tree-of-root}
 use Rattle.fault_in.proofs.Steps.{brings-goes}
 use Rattle.graph_db.specs.Events.{AreOf, Ends, Goes, Last}
 use Rattle.graph_db.specs.Holds.{HasSought, MaySeek, SeekStops}
-use Rattle.graph_db.specs.Parts.{IsLawfulOrSame}
+use Rattle.graph_db.specs.Storing.{IsLawfulOrSame}
 use Rattle.graph_db.proofs.Found.{seek-stops, sought-ends}
 use Rattle.graph_db.proofs.Steps.{goes-then, goes-upstream, reads-goes}
 use Rattle.action_cache.specs.Brings.{AreDeepLooks, BringStops, HasBrought, LooksThenKeeps}
@@ -71,7 +71,7 @@ module _ (who : Who) (d : Digest) (old mid : View) (found : Bool) (lawful : IsLa
       under-then who call first old mid way (inr lawful)
       (sought-ends (deep_note who) d old mid found call None h (deep-may old who call d) (deep-quiet mid.upstream (tables_after mid.start h.earlier) call h.act))
 
-  pub known-mid : (t : Tables) → old.upstream ≡ primary t → has (primary t) d ≡ true → has mid.upstream d ≡ true
+  pub known-mid : (t : State) → old.upstream ≡ t → has t d ≡ true → has mid.upstream d ≡ true
   known-mid t up known = ap (λ (u : State). has u d) (goes-upstream who old mid looked ∙ up) ∙ known
 
   pub tree-found : found ≡ true → HasTreeIn who d old mid
@@ -125,8 +125,8 @@ module _ (who : Who) (call : Call) (key : Digest) (first mid new : View) (under 
 
 -- ---- a get that missed its key, where the upstream has a value
 
-module _ (who : Who) (key value : Digest) (t : Tables) (old mid : View) (upstream : old.upstream ≡ primary t) (lawful : IsLawful old mid) (h : gets.HasMissed who key old mid)
-    (given : fin.get (primary t).cache key ≡ Some value) where
+module _ (who : Who) (key value : Digest) (t : State) (old mid : View) (upstream : old.upstream ≡ t) (lawful : IsLawful old mid) (h : gets.HasMissed who key old mid)
+    (given : fin.get t.cache key ≡ Some value) where
   under-get : IsUnderWay who (Get key) old mid
   under-get =
       let quiet : reply_where (is_none (fin.get old.upstream.cache key)) reply.Miss ≡ None =

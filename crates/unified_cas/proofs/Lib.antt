@@ -5,3 +5,5 @@ pub mod GetsOver
 pub mod PutsOver
 pub mod StoresOver
 pub mod ReadingLemmas
+pub mod NoUpstream
+pub mod QuietLemmas

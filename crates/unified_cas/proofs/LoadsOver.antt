@@ -22,7 +22,7 @@ use Rattle.fault_in.specs.Tree.{HasTree}
 use Rattle.fault_in.proofs.Called.{tree-of-root}
 use Rattle.graph_db.specs.Events.{Ends}
 use Rattle.graph_db.specs.Loads as loads
-use Rattle.graph_db.specs.Parts.{IsLawfulOrSame}
+use Rattle.graph_db.specs.Storing.{IsLawfulOrSame}
 use Rattle.cas_model.specs.Notes as notes
 use Rattle.graph_db.proofs.Steps.{goes-upstream, reads-goes}
 use Rattle.unified_cas.specs.Answers.{Answers, LoadStops}
@@ -34,8 +34,8 @@ early who d old new (fault.Full full) h = h
 early who d old new fault.Memory h = inl h
 
 -- the primary lacks the object
-module _ (who : Who) (d : Digest) (t : Tables) (old mid : View) (upstream : old.upstream ≡ primary t) (lawful : IsLawful old mid) (h : loads.IsMissing who d old mid) where
-  mid-up : mid.upstream ≡ primary t
+module _ (who : Who) (d : Digest) (t : State) (old mid : View) (upstream : old.upstream ≡ t) (lawful : IsLawful old mid) (h : loads.IsMissing who d old mid) where
+  mid-up : mid.upstream ≡ t
   mid-up = goes-upstream who old mid (reads-goes who old mid h.reads) ∙ upstream
 
   root : HasTree mid.upstream (Load d) d
@@ -45,7 +45,7 @@ module _ (who : Who) (d : Digest) (t : Tables) (old mid : View) (upstream : old.
   before = missed-own mid.start who mid.seen h.missed
 
   -- and the upstream has it
-  module _ (there : has (primary t) d ≡ true) where
+  module _ (there : has t d ≡ true) where
     under : IsUnderWay who (Load d) old mid
     under =
         let quiet : reply_where (not (has old.upstream d)) reply.Missing ≡ None = ap (λ (u : State). reply_where (not (has u d)) reply.Missing) upstream ∙ ap (λ b. reply_where (not b) reply.Missing) there in

@@ -28,7 +28,7 @@ use Rattle.graph_db.specs.declared.error.StoreError.{StoreError}
 use Rattle.graph_db.specs.declared.error.StoreError.TheVariants as error
 use Rattle.graph_db.specs.Events.{Ends, Last, Stands, seen_state}
 use Rattle.graph_db.specs.Holds.{HasSought, SeekStops}
-use Rattle.graph_db.specs.Parts.{IsLawfulOrSame}
+use Rattle.graph_db.specs.Storing.{IsLawfulOrSame}
 use Rattle.cas_model.specs.Notes.{ref_note, key_note}
 use Rattle.graph_db.proofs.Found.{found-here, seek-stops, sought-ends, sought-last}
 use Rattle.graph_db.proofs.Steps.{goes-upstream, reads-goes}
@@ -36,22 +36,22 @@ use Rattle.action_cache.specs.Brings.{BringStops, HasBrought}
 use Rattle.action_cache.specs.Keys.{HasFoundKey, HasSoughtKey, KeyStops, MaySeekKey}
 use Rattle.action_cache.specs.Puts.{HasKept, IsRefused, LacksValue}
 use Rattle.action_cache.proofs.KeyKept.{key-missed, sought-says}
+use Rattle.action_cache.proofs.KeyLater.{key-empty, never-had}
 use Rattle.unified_cas.specs.Answers.{Answers, Stops}
 use Rattle.unified_cas.specs.Over.{EndsEarly, FindsValue, HasFoundValue, HasTreeIn, IsAbsentValue, IsUnderWay, TreeStops, ValueStops, kept_as, misses_of}
 use Rattle.unified_cas.specs.Upstream.{AreVisible}
 use Rattle.unified_cas.proofs.GetsOver.{brought-answers, brought-early}
-use Rattle.unified_cas.proofs.ReadingLemmas.{key-empty}
-use Rattle.unified_cas.proofs.UnderWay.{has-later, lacking-earlier, missed-key, needs-tree, never-had, seen-later, there-later, under-answers, under-early, under-ended, under-self, under-stops, under-then, under-tree}
+use Rattle.unified_cas.proofs.UnderWay.{has-later, lacking-earlier, missed-key, needs-tree, seen-later, there-later, under-answers, under-early, under-ended, under-self, under-stops, under-then, under-tree}
 
 -- ---- looking for the value
 
-module _ (who : Who) (value : Digest) (t : Tables) (old new : View) (upstream : old.upstream ≡ primary t) where
+module _ (who : Who) (value : Digest) (t : State) (old new : View) (upstream : old.upstream ≡ t) where
   module _ (found : Bool) (h : HasSought (ref_note who 0) value old new found) where
-    up-new : new.upstream ≡ primary t
+    up-new : new.upstream ≡ t
     up-new = goes-upstream who old new (reads-goes who old new h.reads) ∙ upstream
 
     -- what the search decides of a put of the value
-    value-says : (key : Digest) (there : Bool) → there ≡ has (primary t) value
+    value-says : (key : Digest) (there : Bool) → there ≡ has t value
         → decided_at new.upstream (tables_after new.start h.earlier) (Put key value) ((ref_note who 0).stage) h.act ≡ reply_where (not found && not there) (reply.Dangling 0 value)
     value-says key there is =
         ap (λ b. reply_where (b && not (has new.upstream value)) (reply.Dangling 0 value)) h.missed
@@ -61,11 +61,11 @@ module _ (who : Who) (value : Digest) (t : Tables) (old new : View) (upstream : 
   value-found h = record {
     reads = h.reads;
     visible = (inr (sym h.there), tt);
-    ends = λ key. sought-ends (ref_note who 0) value old new true (Put key value) None h (tt, (refl, refl), tt) (value-says true h key (has (primary t) value) refl);
+    ends = λ key. sought-ends (ref_note who 0) value old new true (Put key value) None h (tt, (refl, refl), tt) (value-says true h key (has t value) refl);
     there = (inr (found-here who 0 value old new h), tt);
   }
 
-  pub value-told : (there : Bool) → there ≡ has (primary t) value → HasSought (ref_note who 0) value old new false → FindsValue who value old new there
+  pub value-told : (there : Bool) → there ≡ has t value → HasSought (ref_note who 0) value old new false → FindsValue who value old new there
   value-told true is h = record {
     reads = h.reads;
     visible = (inl (ap (λ (u : State). has u value) (up-new false h) ∙ sym is), tt);
@@ -143,7 +143,7 @@ module _ (who : Who) (key value : Digest) (first mid : View) (under : IsUnderWay
     key-shallow = missed-key now.start who now.seen (key-missed who key mid now h)
 
     -- the upstream has a value for it
-    module _ (t : Tables) (upstream : first.upstream ≡ primary t) (given : Digest) (at : fin.get (primary t).cache key ≡ Some given) where
+    module _ (t : State) (upstream : first.upstream ≡ t) (given : Digest) (at : fin.get t.cache key ≡ Some given) where
       is : fin.get now.upstream.cache key ≡ Some given
       is = ap (λ (u : State). fin.get u.cache key) (goes-upstream who first now key-under.goes ∙ upstream) ∙ at
 
@@ -197,12 +197,12 @@ absent-answers who key value first mid new i d under none h =
     (subst (λ r. Last (ref_note who 0) (Put key value) r new) some h.last)))
 
 -- how a put ends, where it misses nothing that the upstream has
-pub put-ok : (who : Who) (key value : Digest) (t : Tables) (first mid new : View) (end : Result Digest StoreError) (result : Result Reply FaultInError) → IsUnderWay who (Put key value) first mid
-    → mid.upstream ≡ primary t → IfOk end (HasKept who key value mid new) → IfErr end (IsRefused who key value mid new) → misses_of (primary t) end ≡ false → result ≡ kept_as end
+pub put-ok : (who : Who) (key value : Digest) (t : State) (first mid new : View) (end : Result Digest StoreError) (result : Result Reply FaultInError) → IsUnderWay who (Put key value) first mid
+    → mid.upstream ≡ t → IfOk end (HasKept who key value mid new) → IfErr end (IsRefused who key value mid new) → misses_of t end ≡ false → result ≡ kept_as end
     → IfOk result (λ given. Answers who (Put key value) given first new)
 put-ok who key value t first mid new (Ok had) result under up ok err none is = rw is (kept-answers who key value first mid new under had ok)
 put-ok who key value t first mid new (Err (error.Dangling i d)) result under up ok err none is =
-    rw is (absent-answers who key value first mid new i d under (ap (λ (u : State). has u value) up ∙ ap (has (primary t)) (sym err.is) ∙ none) err)
+    rw is (absent-answers who key value first mid new i d under (ap (λ (u : State). has u value) up ∙ ap (has t) (sym err.is) ∙ none) err)
 put-ok who key value t first mid new (Err (error.Full full)) result under up ok err none is = rw is tt
 put-ok who key value t first mid new (Err error.Memory) result under up ok err none is = rw is tt
 
@@ -225,15 +225,15 @@ missed-value who key value up old mid (Err (error.Dangling i d)) err known = (
 missed-value who key value up old mid (Err (error.Full full)) err known = cc
 missed-value who key value up old mid (Err error.Memory) err known = cc
 
-module _ (who : Who) (key value : Digest) (t : Tables) (old mid : View) (end : Result Digest StoreError) (upstream : old.upstream ≡ primary t) (lawful : IsLawful old mid)
-    (err : IfErr end (IsRefused who key value old mid)) (known : misses_of (primary t) end ≡ true) where
+module _ (who : Who) (key value : Digest) (t : State) (old mid : View) (end : Result Digest StoreError) (upstream : old.upstream ≡ t) (lawful : IsLawful old mid)
+    (err : IfErr end (IsRefused who key value old mid)) (known : misses_of t end ≡ true) where
   lacks : LacksValue who key value old mid 0 value
-  lacks = (missed-value who key value (primary t) old mid end err known).0
+  lacks = (missed-value who key value t old mid end err known).0
 
-  pub there : has (primary t) value ≡ true
-  there = (missed-value who key value (primary t) old mid end err known).1
+  pub there : has t value ≡ true
+  there = (missed-value who key value t old mid end err known).1
 
-  mid-up : mid.upstream ≡ primary t
+  mid-up : mid.upstream ≡ t
   mid-up = goes-upstream who old mid (reads-goes who old mid lacks.reads) ∙ upstream
 
   pub first-under : IsUnderWay who (Put key value) old mid
@@ -250,7 +250,7 @@ module _ (who : Who) (key value : Digest) (t : Tables) (old mid : View) (end : R
     pub under-now : IsUnderWay who (Put key value) old now
     under-now = key-under who key value old mid first-under first-there now after h
 
-    pub now-up : now.upstream ≡ primary t
+    pub now-up : now.upstream ≡ t
     now-up = goes-upstream who mid now (reads-goes who mid now h.reads) ∙ mid-up
 
     shallow-now : missed now.start who is_shallow now.seen ≡ true
@@ -259,7 +259,7 @@ module _ (who : Who) (key value : Digest) (t : Tables) (old mid : View) (end : R
     root-now : HasTree now.upstream (Put key value) value
     root-now = tree-of-root now.upstream (Put key value) value (inl refl)
 
-    pub new-early : (new : View) (error : FaultInError) → fin.get (primary t).cache key ≡ None → IsLawfulOrSame now new → FaultInStops who value now new error → EndsEarly who (Put key value) old new error
+    pub new-early : (new : View) (error : FaultInError) → fin.get t.cache key ≡ None → IsLawfulOrSame now new → FaultInStops who value now new error → EndsEarly who (Put key value) old new error
     new-early new error none same stops =
         under-early who (Put key value) value old now new error under-now root-now shallow-now
         (needs-tree who (Put key value) value old mid first-under.goes first-under.lawful (tree-of-root mid.upstream (Put key value) value (inl refl)) first-there-has lacks.lacks) (
@@ -278,7 +278,7 @@ module _ (who : Who) (key value : Digest) (t : Tables) (old mid : View) (end : R
       pub new-under : IsUnderWay who (Put key value) old new
       new-under = under-tree who (Put key value) value old now new under-now root-now shallow-now same whole
 
-      pub new-lacks : fin.get (primary t).cache key ≡ None → fin.get new.upstream.cache key ≡ None
+      pub new-lacks : fin.get t.cache key ≡ None → fin.get new.upstream.cache key ≡ None
       new-lacks none = ap (λ (u : State). fin.get u.cache key) (goes-upstream who old new new-under.goes ∙ upstream) ∙ none
 
       -- the second try misses nothing

@@ -29,23 +29,16 @@ use Rattle.graph_db.specs.Stores.{object_with}
 use Rattle.graph_db.proofs.Found.{lawful-same-then}
 use Rattle.graph_db.proofs.Steps.{goes-then, reads-goes, reads-then}
 use Rattle.action_cache.specs.Gets as gets
-use Rattle.action_cache.specs.Keys.{HasSoughtKey}
+use Rattle.action_cache.specs.Keys.{HasKey, HasSoughtKey}
+use Rattle.action_cache.proofs.KeyLater.{never-had, put-held}
 use Rattle.action_cache.specs.Puts.{IsRefused}
 use Rattle.unified_cas.specs.Over.{HasRefsIn, ReadsKnown, kept_as, misses_of, stored_as}
 use Rattle.unified_cas.specs.Reading.{ReadsAlone}
-use Rattle.unified_cas.specs.Upstream.{HasKey}
-use Rattle.unified_cas.proofs.UnderWay.{all-later, has-later, never-had}
+use Rattle.unified_cas.proofs.UnderWay.{all-later, has-later}
 
 -- a call that has only looked and read, whatever it is answered
 pub all-reads : (who : Who) (call : Call) (given : Reply) (old new : View) → Reads who old new → ReadsAlone who call given old new
-all-reads who call (reply.Dangling i d) old new r = r
-all-reads who call reply.Missing old new r = r
-all-reads who call reply.Miss old new r = r
-all-reads who (Load d) (reply.Found o) old new r = λ held. r
-all-reads who (Get k) (reply.Hit v) old new r = λ held. r
-all-reads who (Store o) (reply.Stored d) old new r = λ held. inl r
-all-reads who (Put k v) (reply.Kept w) old new r = λ held. inl r
-all-reads who call given old new r = tt
+all-reads who call given old new r = λ quiet. r
 
 -- ---- what the primary had before is not missed
 
@@ -55,18 +48,9 @@ get-held who key old mid lawful h held = never-had who old mid key (reads-goes w
 pub load-held : (who : Who) (d : Digest) (old mid : View) → IsLawful old mid → loads.IsMissing who d old mid → has (seen_state old) d ≡ true → ⊥
 load-held who d old mid lawful h held = cc (has-later who old mid d (reads-goes who old mid h.reads) (inr lawful) held, h.lacks)
 
-pub key-empty : (who : Who) (key : Digest) (mid now : View) → HasSoughtKey who key mid now 0 → fin.get (seen_state now).cache key ≡ None
-key-empty who key mid now h = get-value (tables now) key ∙ kept-none (tables now) key (sym h.value_is)
-
-pub put-held : (who : Who) (key : Digest) (old mid now : View) → Reads who old mid → IsLawful old mid → IsLawful mid now → HasSoughtKey who key mid now 0 → HasKey old key → ⊥
-put-held who key old mid now first lawful after h held =
-    never-had who old now key (goes-then who old mid now (reads-goes who old mid first) (reads-goes who mid now h.reads)) (inr (record { was = lawful.was; is = after.is }))
-    (key-empty who key mid now h) held
-
 -- so a put that missed its key is not one of a key that the primary had
-pub put-never : (who : Who) (key value had : Digest) (old mid now last : View) → Reads who old mid → IsLawful old mid → IsLawful mid now → HasSoughtKey who key mid now 0
-    → ReadsAlone who (Put key value) (reply.Kept had) old last
-put-never who key value had old mid now last first lawful after h = λ held. absurd (put-held who key old mid now first lawful after h held)
+pub put-never : (who : Who) (key : Digest) (old mid now last : View) → Reads who old mid → IsLawful old mid → IsLawful mid now → HasSoughtKey who key mid now 0 → HasKey old key → Reads who old last
+put-never who key old mid now last first lawful after h held = absurd (put-held who key old mid now first lawful after h held)
 
 -- ---- a put
 
@@ -125,7 +109,7 @@ module _ (who : Who) (refs : List Digest) (digest : Digest) (old mid new : View)
   -- the primary has it
   pub known-found : ReadsKnown who refs digest old new (reply.Stored digest)
   known-found = λ bytes is held.
-      inl (reads-then who old mid new (s.reads (held-refs (object_with refs bytes) (digest_of refs bytes) old new (lawful-same-then old mid new s.brings.lawful lawful) held)) h.reads)
+      (reads-then who old mid new (s.reads (held-refs (object_with refs bytes) (digest_of refs bytes) old new (lawful-same-then old mid new s.brings.lawful lawful) held)) h.reads)
 
   -- it was missed
   pub known-missed : found ≡ false → (last : View) → ReadsKnown who refs digest old last (reply.Stored digest)

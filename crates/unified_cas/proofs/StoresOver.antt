@@ -36,7 +36,7 @@ use Rattle.graph_db.specs.declared.error.StoreError.{StoreError}
 use Rattle.graph_db.specs.declared.error.StoreError.TheVariants as error
 use Rattle.graph_db.specs.Events.{Ends, Goes, IsBrought, Last, SpeaksFor, seen_state}
 use Rattle.graph_db.specs.Holds.{HasSought, MaySeek, SeekStops}
-use Rattle.graph_db.specs.Parts.{IsLawfulOrSame}
+use Rattle.graph_db.specs.Storing.{IsLawfulOrSame}
 use Rattle.graph_db.specs.Stores.{HasStored, IsRefused, object_with}
 use Rattle.cas_model.specs.Notes.{own_note, ref_note}
 use Rattle.graph_db.proofs.Found.{found-here, lawful-same-then, length-taken, missed-here, seek-stops, sought-ends, sought-last}
@@ -89,9 +89,9 @@ seeks-none who all a = record {
   misses = tt;
 }
 
-module _ (who : Who) (all : List Digest) (i : ℕ) (d : Digest) (lacking : Bool) (t : Tables) (old mid new : View) (at : slice_get all i ≡ Some d) (upstream : old.upstream ≡ primary t)
+module _ (who : Who) (all : List Digest) (i : ℕ) (d : Digest) (lacking : Bool) (t : State) (old mid new : View) (at : slice_get all i ≡ Some d) (upstream : old.upstream ≡ t)
     (first : SeeksRefs who all (take i all) lacking old mid) (lawful : IsLawful mid new) where
-  up-mid : mid.upstream ≡ primary t
+  up-mid : mid.upstream ≡ t
   up-mid = goes-upstream who old mid (reads-goes who old mid first.reads) ∙ upstream
 
   may-seek : (bytes : List ℕ) → MaySeek mid (ref_note who i) (Store (object_with all bytes)) d
@@ -103,10 +103,10 @@ module _ (who : Who) (all : List Digest) (i : ℕ) (d : Digest) (lacking : Bool)
       (then-stops who (Store (object_with all bytes)) old mid new 0 0 (first.ends bytes) (seek-stops (ref_note who i) d mid new (Store (object_with all bytes)) s (may-seek bytes)))
 
   module _ (found : Bool) (h : HasSought (ref_note who i) d mid new found) where
-    up-new : new.upstream ≡ primary t
+    up-new : new.upstream ≡ t
     up-new = goes-upstream who mid new (reads-goes who mid new h.reads) ∙ up-mid
 
-    ref-says : (bytes : List ℕ) (there : Bool) → there ≡ has (primary t) d
+    ref-says : (bytes : List ℕ) (there : Bool) → there ≡ has t d
         → decided_at new.upstream (tables_after new.start h.earlier) (Store (object_with all bytes)) ((ref_note who i).stage) h.act ≡ reply_where (not found && not there) (reply.Dangling i d)
     ref-says bytes there is =
         ap (λ (o : Option Digest). dangling new.upstream (tables_after new.start h.earlier) i o h.act) at
@@ -141,10 +141,10 @@ module _ (who : Who) (all : List Digest) (i : ℕ) (d : Digest) (lacking : Bool)
 
   pub seeks-found : HasSought (ref_note who i) d mid new true → SeeksRefs who all (take (i + 1) all) lacking old new
   seeks-found h =
-      seeks-one true h lacking (λ bytes. seek-ends true h bytes None (ref-says true h bytes (has (primary t) d) refl)) (inr (found-here who i d mid new h)) (inr (sym h.there))
+      seeks-one true h lacking (λ bytes. seek-ends true h bytes None (ref-says true h bytes (has t d) refl)) (inr (found-here who i d mid new h)) (inr (sym h.there))
       (still-misses true h lacking first.misses (sym h.there))
 
-  pub seeks-lacking : (there : Bool) → there ≡ has (primary t) d → there ≡ true → HasSought (ref_note who i) d mid new false → SeeksRefs who all (take (i + 1) all) true old new
+  pub seeks-lacking : (there : Bool) → there ≡ has t d → there ≡ true → HasSought (ref_note who i) d mid new false → SeeksRefs who all (take (i + 1) all) true old new
   seeks-lacking false is some h = cc
   seeks-lacking true is some h =
       let known : has new.upstream d ≡ true = ap (λ (u : State). has u d) (up-new false h) ∙ sym is in
@@ -160,7 +160,7 @@ module _ (who : Who) (all : List Digest) (i : ℕ) (d : Digest) (lacking : Bool)
         missed = missed-here (ref_note who i) d mid new is_shallow refl h;
       })
 
-  pub seeks-absent : (there : Bool) → there ≡ has (primary t) d → there ≡ false → HasSought (ref_note who i) d mid new false → IsAbsent who all old new i d
+  pub seeks-absent : (there : Bool) → there ≡ has t d → there ≡ false → HasSought (ref_note who i) d mid new false → IsAbsent who all old new i d
   seeks-absent true is none h = cc
   seeks-absent false is none h = record {
     lawful = lawful-same-then old mid new first.lawful lawful;
@@ -207,8 +207,8 @@ module _ (who : Who) (all : List Digest) (i : ℕ) (d : Digest) (old mid : View)
         goes_on = way.goes_on;
       }))
 
-  pub brings-more : (new : View) (answer : Bool) (told : Result Bool FaultInError) (t : Tables) → old.upstream ≡ primary t → AreVisible old.upstream (seen_state old) all → IsLawfulOrSame mid new
-      → (told ≡ Ok false) ↔ (has (primary t) d ≡ false) → told ≡ Ok answer → HasFaultedIn who d mid new answer → BringsRefs who all (take (i + 1) all) old new
+  pub brings-more : (new : View) (answer : Bool) (told : Result Bool FaultInError) (t : State) → old.upstream ≡ t → AreVisible old.upstream (seen_state old) all → IsLawfulOrSame mid new
+      → (told ≡ Ok false) ↔ (has t d ≡ false) → told ≡ Ok answer → HasFaultedIn who d mid new answer → BringsRefs who all (take (i + 1) all) old new
   brings-more new true told t up visible same iff is h = brings-whole new same h
   brings-more new false told t up visible same iff is h = brings-same new h (step (visible-at old.upstream (seen_state old) all i d at visible)) where
     step : (has old.upstream d ≡ true) ⊎ (has (seen_state old) d ≡ true) → has (seen_state mid) d ≡ true
@@ -268,8 +268,8 @@ module _ (who : Who) (refs : List Digest) (old new : View) where
 -- ---- a store of an object that the upstream lacks
 
 -- how a store ends, where it misses nothing that the upstream has
-pub store-ok : (who : Who) (o : Object) (t : Tables) (first mid new : View) (end : Result Digest StoreError) (result : Result Reply FaultInError) → IsUnderWay who (Store o) first mid
-    → mid.upstream ≡ primary t → IfOk end (HasStored who o mid new) → IfErr end (IsRefused who o mid new) → misses_of (primary t) end ≡ false → result ≡ stored_as end
+pub store-ok : (who : Who) (o : Object) (t : State) (first mid new : View) (end : Result Digest StoreError) (result : Result Reply FaultInError) → IsUnderWay who (Store o) first mid
+    → mid.upstream ≡ t → IfOk end (HasStored who o mid new) → IfErr end (IsRefused who o mid new) → misses_of t end ≡ false → result ≡ stored_as end
     → IfOk result (λ given. Answers who (Store o) given first new)
 store-ok who o t first mid new (Ok d) result under up ok err none is =
     rw is (under-answers who (Store o) (reply.Stored d) first mid new (object_cost o) (own_note who) under ok.ends (omega arith) refl ok.last)
@@ -291,8 +291,8 @@ store-err who o first mid new (Err (error.Full full)) result under err is =
 store-err who o first mid new (Err error.Memory) result under err is = rw is (under-stops who (Store o) first mid new (object_cost o) under err (omega arith))
 
 -- the first try missed a reference that the upstream has
-pub store-missed : (who : Who) (o : Object) (t : Tables) (old mid : View) (end : Result Digest StoreError) → old.upstream ≡ primary t → IsLawful old mid → IfErr end (IsRefused who o old mid)
-    → misses_of (primary t) end ≡ true → IsUnderWay who (Store o) old mid
+pub store-missed : (who : Who) (o : Object) (t : State) (old mid : View) (end : Result Digest StoreError) → old.upstream ≡ t → IsLawful old mid → IfErr end (IsRefused who o old mid)
+    → misses_of t end ≡ true → IsUnderWay who (Store o) old mid
 store-missed who o t old mid (Ok d) up lawful err known = cc
 store-missed who o t old mid (Err (error.Dangling i d)) up lawful err known =
     let quiet : reply_where (not (has old.upstream d)) (reply.Dangling i d) ≡ None =
@@ -309,7 +309,7 @@ store-misses who o up mid new (Err (error.Dangling i d)) lawful all err =
 store-misses who o up mid new (Err (error.Full full)) lawful all err = refl
 store-misses who o up mid new (Err error.Memory) lawful all err = refl
 
-pub not-known : (v : View) (t : Tables) (d : Digest) → v.upstream ≡ primary t → has (primary t) d ≡ false → IsBrought v d
+pub not-known : (v : View) (t : State) (d : Digest) → v.upstream ≡ t → has t d ≡ false → IsBrought v d
 not-known v t d up none there = let e = ap (λ (u : State). has u d) up in cc
 
 -- ---- a store of an object that the upstream has

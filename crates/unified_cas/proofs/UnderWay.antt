@@ -43,14 +43,14 @@ use Rattle.fault_in.proofs.Steps.{brings-goes}
 use Rattle.frozen_store.specs.Seen.{FrozenSeen, IsSeen, place_in}
 use Rattle.graph_db.specs.Events.{Ends, Goes, Last, SpeaksFor, seen_state}
 use Rattle.graph_db.specs.Events as graph
-use Rattle.graph_db.specs.Parts.{IsLawfulOrSame}
+use Rattle.graph_db.specs.Storing.{IsLawfulOrSame}
 use Rattle.graph_db.proofs.Found.{goes-grows, lawful-same-then}
 use Rattle.graph_db.proofs.Sought.{there-more}
 use Rattle.graph_db.proofs.Steps.{goes-opened, goes-self, goes-speaks, goes-takes, goes-then, goes-upstream, missed-more}
 use Rattle.unified_cas.specs.Answers.{Answers, CostsAtMost, Stops}
 use Rattle.unified_cas.specs.Over.{EndsEarly, IsUnderWay, answer_of}
 use Rattle.unified_cas.specs.Reading.{ReadsAlone}
-use Rattle.unified_cas.specs.Upstream.{AreVisible, HadToBring, HasKey, HasToBring, IsLacking, NeedsTree}
+use Rattle.unified_cas.specs.Upstream.{AreVisible, HadToBring, HasToBring, IsLacking, NeedsTree}
 
 -- ---- what stays
 
@@ -71,20 +71,6 @@ lacked-earlier who a b d goes lawful none = step (has (seen_state a) d) refl whe
   step : (x : Bool) → has (seen_state a) d ≡ x → has (seen_state a) d ≡ false
   step false is = is
   step true is = absurd (cc (has-later who a b d goes lawful is, none))
-
-key-stays : (s t : Tables) (k : Digest) → IsSound s → Grows s t → is_some (fin.get (primary s).cache k) ≡ true → is_some (fin.get (primary t).cache k) ≡ true
-key-stays s t k sound grows h = ap is_some (get-value t k) ∙ step (kept-cases s k sound) where
-  step : (cell_under s Actions k ≡ 0) ⊎ IsKept s k → is_some (value_under t k) ≡ true
-  step (inl none) = absurd (cc (h, ap is_some (get-value s k), ap is_some (kept-none s k none)))
-  step (inr u) = ap is_some (value-stays s t sound grows k u)
-
-pub key-later : (who : Who) (a b : View) (k : Digest) → Goes who a b → IsLawfulOrSame a b → HasKey a k → HasKey b k
-key-later who a b k goes (inl same) h = subst (λ (v : View). HasKey v k) (sym same) h
-key-later who a b k goes (inr lawful) h = key-stays (tables a) (tables b) k (sound-run a.upstream a.start a.seen lawful.was) (goes-grows who a b goes lawful.is) h
-
--- a key that the primary lacks
-pub never-had : (who : Who) (a b : View) (k : Digest) → Goes who a b → IsLawfulOrSame a b → fin.get (seen_state b).cache k ≡ None → HasKey a k → ⊥
-never-had who a b k goes lawful none h = cc (key-later who a b k goes lawful h, ap is_some none)
 
 rows-later : (who : Who) (a b : View) (rows : List Row) → Goes who a b → IsLawfulOrSame a b → HasRows (seen_state a) rows → HasRows (seen_state b) rows
 rows-later who a b [] goes lawful h = tt
@@ -354,13 +340,13 @@ answered-err who call old new (Ok given) result err is = rw is tt
 answered-err who call old new (Err (fault.Full full)) result err is = rw is tt
 answered-err who call old new (Err fault.Memory) result err is = rw is err
 
+-- a refused claim is the answer of no call that needs no change
 full-reads : (who : Who) (call : Call) (old new : View) (at words size : ℕ) → ReadsAlone who call (reply.Full at words size) old new
-full-reads who (Store o) old new at words size = tt
-full-reads who (Load d) old new at words size = tt
-full-reads who (Put k v) old new at words size = tt
-full-reads who (Get k) old new at words size = tt
+full-reads who (Store o) old new at words size = λ quiet. absurd quiet
+full-reads who (Load d) old new at words size = λ quiet. absurd quiet
+full-reads who (Put k v) old new at words size = λ quiet. absurd quiet
+full-reads who (Get k) old new at words size = λ quiet. absurd quiet
 
--- a refused claim is no reply that says so
 pub answered-reads : (who : Who) (call : Call) (old new : View) (end : Result Reply FaultInError) (result : Result Reply AllocError) → IfOk end (λ given. ReadsAlone who call given old new)
     → result ≡ answer_of end → IfOk result (λ given. ReadsAlone who call given old new)
 answered-reads who call old new (Ok given) result ok is = rw is ok

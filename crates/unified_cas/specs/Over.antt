@@ -22,7 +22,7 @@ use Rattle.graph_db.specs.declared.error.StoreError.{StoreError}
 use Rattle.graph_db.specs.declared.error.StoreError.TheVariants as store
 use Rattle.graph_db.specs.Events.{Ends, Goes, Last, Reads, seen_state}
 use Rattle.graph_db.specs.Events as graph
-use Rattle.graph_db.specs.Parts.{IsLawfulOrSame}
+use Rattle.graph_db.specs.Storing.{IsLawfulOrSame}
 use Rattle.graph_db.specs.Stores.{object_with}
 use Rattle.cas_model.specs.Notes.{ref_note}
 use Rattle.unified_cas.specs.declared.storing.FoundRefs.{FoundRefs}

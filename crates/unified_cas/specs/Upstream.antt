@@ -1,5 +1,5 @@
 -- The upstream of a call, and what a call may have to bring in from it.
-use Rattle.std.specs.Prelude.{◌≡◌, ◌⊎◌, List, [], ◌∷◌, true, false, Some, None, is_some}
+use Rattle.std.specs.Prelude.{◌≡◌, ◌⊎◌, List, [], ◌∷◌, true, false, Some, None}
 use Rattle.std.specs.declared.option.Option.{Option}
 use Rattle.std.specs.FinMap as fin
 use Rattle.cas_model.specs.declared.call.Call.{Call}
@@ -14,6 +14,7 @@ use Rattle.cas_history.specs.Conduct.{InTree, IsValue, is_shallow, missed}
 use Rattle.cas_port.specs.View.{View}
 use Rattle.frozen_store.specs.Seen.{FrozenSeen}
 use Rattle.graph_db.specs.Events.{seen_state}
+use Rattle.action_cache.specs.Keys.{HasKey}
 
 -- what an upstream holds: the state of its words, and the empty one where there is none
 abbrev pub upstream_state : Option FrozenSeen → State
@@ -28,10 +29,6 @@ pub record NeedsTree (call : Call) (v : View) : Type 0 where
   pub lacks : has (seen_state v) digest ≡ false
 
 -- ---- what a call has to bring in
-
--- the primary has a value for the key
-abbrev pub HasKey : View → Digest → Type 0
-HasKey v key = is_some (fin.get (seen_state v).cache key) ≡ true
 
 -- the upstream alone has the object
 pub record IsLacking (digest : Digest) (v : View) : Type 0 where

@@ -1,32 +1,33 @@
 // Keys and their values over an upstream.
-ghost use Rattle.std.specs.Prelude.{◌≡◌, Some, None, IfOk, IfErr, OnErr, OnOk};
+ghost use Rattle.std.specs.Prelude.{◌≡◌, Some, None, IfOk, IfErr, OnErr, OnOk, option_copied};
 ghost use Rattle.std.specs.FinMap as fin;
-ghost use Rattle.cas_model.specs.Primary.{primary};
 ghost use Rattle.cas_model.specs.declared.call.Call.TheVariants.{Put, Get};
 ghost use Rattle.cas_port.specs.Calls.{IsLawful};
 ghost use Rattle.graph_db.specs.Events.{SpeaksFor};
 ghost use Rattle.unified_cas.specs.Answers.{Answers};
 ghost use Rattle.unified_cas.specs.Over.{EndsEarly, FindsValue, HasTreeIn, TreeStops, ValueStops};
 ghost use Rattle.unified_cas.specs.Reading.{ReadsAlone};
+ghost use Rattle.unified_cas.specs.Upstream.{upstream_state};
 
-use crate::replies::{has_object, kept, misses_known};
+use crate::replies::{kept, misses_known};
+use crate::upstream::{action, bring_tree, closed, has_object};
 use action_cache::{bring, find_key, get, put};
 use cas_model::{Digest, Note, Reply, Stage, Who};
 use cas_port::CellPort;
-use fault_in::{FaultInError, fault_in};
+use fault_in::FaultInError;
 use frozen_store::Frozen;
 use graph_db::holds;
 use std::alloc::{AllocError, Global};
 
 // Gets the value of a key. Where the upstream alone has the key, it is brought in with its value's tree.
-pub(crate) fn get_over<P: CellPort>(
+pub(crate) fn get_value<P: CellPort>(
     alloc: Global,
     port: &mut P,
     who: Who,
-    up: &Frozen,
+    up: Option<&Frozen>,
     key: &Digest,
 ) -> Result<Reply, FaultInError>
-    requires upstream { (P.view port.old).upstream ≡ primary up.now.tables }
+    requires upstream { (P.view port.old).upstream ≡ upstream_state (option_copied up) }
     requires speaks { SpeaksFor (P.view port.old) who }
     ensures ok { IfOk result (λ reply. Answers who (Get key.now) reply (P.view port.old) (P.view port.new)) }
     ensures err { IfErr result (EndsEarly who (Get key.now) (P.view port.old) (P.view port.new)) }
@@ -36,7 +37,7 @@ pub(crate) fn get_over<P: CellPort>(
     if let Some(value) = get(port, who, key)? {
         return Ok(Reply::Hit(value));
     }
-    match up.action(key) {
+    match action(up, key) {
         None => Ok(Reply::Miss),
         Some(given) => {
             bring_value(alloc, port, who, up, key, &given)?;
@@ -46,22 +47,22 @@ pub(crate) fn get_over<P: CellPort>(
 }
 
 // Gives a key a value.
-pub(crate) fn put_over<P: CellPort>(
+pub(crate) fn put_value<P: CellPort>(
     alloc: Global,
     port: &mut P,
     who: Who,
-    up: &Frozen,
+    up: Option<&Frozen>,
     key: &Digest,
     value: &Digest,
 ) -> Result<Reply, FaultInError>
-    requires upstream { (P.view port.old).upstream ≡ primary up.now.tables }
+    requires upstream { (P.view port.old).upstream ≡ upstream_state (option_copied up) }
     requires speaks { SpeaksFor (P.view port.old) who }
     ensures ok { IfOk result (λ reply. Answers who (Put key.now value.now) reply (P.view port.old) (P.view port.new)) }
     ensures err { IfErr result (EndsEarly who (Put key.now value.now) (P.view port.old) (P.view port.new)) }
     ensures reads { IfOk result (λ reply. ReadsAlone who (Put key.now value.now) reply (P.view port.old) (P.view port.new)) }
     ensures lawful { IsLawful (P.view port.old) (P.view port.new) }
 {
-    match up.action(key) {
+    match action(up, key) {
         None => put_new(alloc, port, who, up, key, value),
         Some(given) => put_known(alloc, port, who, up, key, value, &given),
     }
@@ -73,13 +74,13 @@ fn put_new<P: CellPort>(
     alloc: Global,
     port: &mut P,
     who: Who,
-    up: &Frozen,
+    up: Option<&Frozen>,
     key: &Digest,
     value: &Digest,
 ) -> Result<Reply, FaultInError>
-    requires upstream { (P.view port.old).upstream ≡ primary up.now.tables }
+    requires upstream { (P.view port.old).upstream ≡ upstream_state (option_copied up) }
     requires speaks { SpeaksFor (P.view port.old) who }
-    requires lacks { fin.get (primary up.now.tables).cache key.now ≡ None }
+    requires lacks { fin.get (upstream_state (option_copied up)).cache key.now ≡ None }
     ensures ok { IfOk result (λ reply. Answers who (Put key.now value.now) reply (P.view port.old) (P.view port.new)) }
     ensures err { IfErr result (EndsEarly who (Put key.now value.now) (P.view port.old) (P.view port.new)) }
     ensures reads { IfOk result (λ reply. ReadsAlone who (Put key.now value.now) reply (P.view port.old) (P.view port.new)) }
@@ -92,7 +93,7 @@ fn put_new<P: CellPort>(
     if let Some(had) = find_key(port, who, key)? {
         return Ok(Reply::Kept(had));
     }
-    fault_in(alloc, port, who, up, value)?;
+    bring_tree(alloc, port, who, up, value)?;
     kept(put(port, who, key, value))
 }
 
@@ -101,14 +102,14 @@ fn put_known<P: CellPort>(
     alloc: Global,
     port: &mut P,
     who: Who,
-    up: &Frozen,
+    up: Option<&Frozen>,
     key: &Digest,
     value: &Digest,
     given: &Digest,
 ) -> Result<Reply, FaultInError>
-    requires upstream { (P.view port.old).upstream ≡ primary up.now.tables }
+    requires upstream { (P.view port.old).upstream ≡ upstream_state (option_copied up) }
     requires speaks { SpeaksFor (P.view port.old) who }
-    requires given { fin.get (primary up.now.tables).cache key.now ≡ Some given.now }
+    requires given { fin.get (upstream_state (option_copied up)).cache key.now ≡ Some given.now }
     ensures ok { IfOk result (λ reply. Answers who (Put key.now value.now) reply (P.view port.old) (P.view port.new)) }
     ensures err { IfErr result (EndsEarly who (Put key.now value.now) (P.view port.old) (P.view port.new)) }
     ensures reads { IfOk result (λ reply. ReadsAlone who (Put key.now value.now) reply (P.view port.old) (P.view port.new)) }
@@ -131,10 +132,10 @@ fn put_known<P: CellPort>(
 fn finds_value<P: CellPort>(
     port: &mut P,
     who: Who,
-    up: &Frozen,
+    up: Option<&Frozen>,
     value: &Digest,
 ) -> Result<bool, AllocError>
-    requires upstream { (P.view port.old).upstream ≡ primary up.now.tables }
+    requires upstream { (P.view port.old).upstream ≡ upstream_state (option_copied up) }
     requires speaks { SpeaksFor (P.view port.old) who }
     ensures ok { IfOk result (FindsValue who value.now (P.view port.old) (P.view port.new)) }
     ensures err { OnErr result (ValueStops who value.now (P.view port.old) (P.view port.new)) }
@@ -155,24 +156,24 @@ fn bring_value<P: CellPort>(
     alloc: Global,
     port: &mut P,
     who: Who,
-    up: &Frozen,
+    up: Option<&Frozen>,
     key: &Digest,
     given: &Digest,
 ) -> Result<(), FaultInError>
-    requires upstream { (P.view port.old).upstream ≡ primary up.now.tables }
+    requires upstream { (P.view port.old).upstream ≡ upstream_state (option_copied up) }
     requires speaks { SpeaksFor (P.view port.old) who }
-    requires given { fin.get (primary up.now.tables).cache key.now ≡ Some given.now }
+    requires given { fin.get (upstream_state (option_copied up)).cache key.now ≡ Some given.now }
     ensures ok { OnOk result (HasTreeIn who given.now (P.view port.old) (P.view port.new)) }
     ensures err { IfErr result (TreeStops who given.now (P.view port.old) (P.view port.new)) }
     ensures lawful { IsLawful (P.view port.old) (P.view port.new) }
 {
-    up.seen();
+    closed(up);
     let note = Note {
         who,
         stage: Stage::Deep,
     };
     if !holds(port, note, given)? {
-        fault_in(alloc, port, who, up, given)?;
+        bring_tree(alloc, port, who, up, given)?;
     }
     Ok(())
 }

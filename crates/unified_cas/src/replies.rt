@@ -1,26 +1,18 @@
-// Replies of a call over an upstream.
-ghost use Rattle.std.specs.Prelude.{◌≡◌};
-ghost use Rattle.cas_model.specs.Primary.{primary};
-ghost use Rattle.cas_model.specs.State.{has};
+// Replies of a call.
+ghost use Rattle.std.specs.Prelude.{◌≡◌, option_copied};
 ghost use Rattle.unified_cas.specs.Over.{answer_of, kept_as, misses_of, refused_as, stored_as};
+ghost use Rattle.unified_cas.specs.Upstream.{upstream_state};
 
+use crate::upstream::has_object;
 use cas_model::{Digest, Reply};
 use fault_in::FaultInError;
 use frozen_store::Frozen;
 use graph_db::StoreError;
 use std::alloc::AllocError;
 
-// Whether the upstream has an object.
-pub(crate) fn has_object(up: &Frozen, digest: &Digest) -> bool
-    ensures { result ≡ has (primary up.now.tables) digest.now }
-{
-    up.seen();
-    up.content_place(digest).is_some()
-}
-
 // Whether a call was refused since the primary lacks an object that the upstream has.
-pub(crate) fn misses_known(up: &Frozen, end: &Result<Digest, StoreError>) -> bool
-    ensures { result ≡ misses_of (primary up.now.tables) end.now }
+pub(crate) fn misses_known(up: Option<&Frozen>, end: &Result<Digest, StoreError>) -> bool
+    ensures { result ≡ misses_of (upstream_state (option_copied up.entry)) end.now }
 {
     match end {
         Err(StoreError::Dangling { digest, .. }) => has_object(up, digest),

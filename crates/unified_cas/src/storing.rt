@@ -1,36 +1,36 @@
 // Storing and loading an object over an upstream.
-ghost use Rattle.std.specs.Prelude.{◌≡◌, ◌≤◌, false, true, length, IfOk, IfErr, OnErr, OnOk};
+ghost use Rattle.std.specs.Prelude.{◌≡◌, ◌≤◌, false, true, length, IfOk, IfErr, OnErr, OnOk, option_copied};
 ghost use Rattle.cas_model.specs.Object.{digest_of};
-ghost use Rattle.cas_model.specs.Primary.{primary};
 ghost use Rattle.cas_model.specs.State.{has};
 ghost use Rattle.cas_model.specs.declared.call.Call.TheVariants.{Store, Load};
 ghost use Rattle.cas_history.specs.Conduct.{is_shallow, missed};
 ghost use Rattle.cas_port.specs.Calls.{IsLawful};
 ghost use Rattle.graph_db.specs.Events.{SpeaksFor, seen_state};
-ghost use Rattle.graph_db.specs.Parts.{IsLawfulOrSame};
+ghost use Rattle.graph_db.specs.Storing.{IsLawfulOrSame};
 ghost use Rattle.graph_db.specs.Stores.{object_with};
 ghost use Rattle.unified_cas.specs.Answers.{Answers};
 ghost use Rattle.unified_cas.specs.Over.{AnswersKnown, BringsRefs, EndsEarly, FindStops, FindsRefs, KnownEndsEarly, LoadEndsEarly, ReadsKnown, RefsStop, SettleStops, SettlesRefs};
 ghost use Rattle.unified_cas.specs.Reading.{ReadsAlone};
-ghost use Rattle.unified_cas.specs.Upstream.{AreVisible};
+ghost use Rattle.unified_cas.specs.Upstream.{AreVisible, upstream_state};
 
-use crate::replies::{has_object, misses_known, stored};
+use crate::replies::{misses_known, stored};
+use crate::upstream::{bring_tree, has_object};
 use cas_model::{Digest, Note, Reply, Stage, Who};
 use cas_port::CellPort;
-use fault_in::{FaultInError, fault_in};
+use fault_in::FaultInError;
 use frozen_store::Frozen;
 use graph_db::{holds, load, store_with_digest};
 use std::alloc::{AllocError, Global};
 
 // Loads an object. Where the upstream alone has it, its tree is brought in.
-pub(crate) fn load_over<P: CellPort>(
+pub(crate) fn load_object<P: CellPort>(
     alloc: Global,
     port: &mut P,
     who: Who,
-    up: &Frozen,
+    up: Option<&Frozen>,
     digest: &Digest,
 ) -> Result<Reply, FaultInError>
-    requires upstream { (P.view port.old).upstream ≡ primary up.now.tables }
+    requires upstream { (P.view port.old).upstream ≡ upstream_state (option_copied up) }
     requires speaks { SpeaksFor (P.view port.old) who }
     ensures ok { IfOk result (λ reply. Answers who (Load digest.now) reply (P.view port.old) (P.view port.new)) }
     ensures err { IfErr result (LoadEndsEarly who digest.now (P.view port.old) (P.view port.new)) }
@@ -40,7 +40,7 @@ pub(crate) fn load_over<P: CellPort>(
     if let Some(object) = load(alloc, port, who, digest)? {
         return Ok(Reply::Found(object));
     }
-    if !fault_in(alloc, port, who, up, digest)? {
+    if !bring_tree(alloc, port, who, up, digest)? {
         return Ok(Reply::Missing);
     }
     match load(alloc, port, who, digest)? {
@@ -50,15 +50,15 @@ pub(crate) fn load_over<P: CellPort>(
 }
 
 // Stores an object. Its references are brought in where the upstream alone has them, and so is the object.
-pub(crate) fn store_over<P: CellPort>(
+pub(crate) fn store_object<P: CellPort>(
     alloc: Global,
     port: &mut P,
     who: Who,
-    up: &Frozen,
+    up: Option<&Frozen>,
     refs: &[Digest],
     data: &[u8],
 ) -> Result<Reply, FaultInError>
-    requires upstream { (P.view port.old).upstream ≡ primary up.now.tables }
+    requires upstream { (P.view port.old).upstream ≡ upstream_state (option_copied up) }
     requires speaks { SpeaksFor (P.view port.old) who }
     requires few_refs { length refs.now ≤ 65535 }
     requires short { length «data».now ≤ 16777215 }
@@ -80,17 +80,17 @@ fn store_new<P: CellPort>(
     alloc: Global,
     port: &mut P,
     who: Who,
-    up: &Frozen,
+    up: Option<&Frozen>,
     digest: &Digest,
     refs: &[Digest],
     data: &[u8],
 ) -> Result<Reply, FaultInError>
-    requires upstream { (P.view port.old).upstream ≡ primary up.now.tables }
+    requires upstream { (P.view port.old).upstream ≡ upstream_state (option_copied up) }
     requires speaks { SpeaksFor (P.view port.old) who }
     requires few_refs { length refs.now ≤ 65535 }
     requires short { length «data».now ≤ 16777215 }
     requires digest { digest.now ≡ digest_of refs.now «data».now }
-    requires lacks { has (primary up.now.tables) digest.now ≡ false }
+    requires lacks { has (upstream_state (option_copied up)) digest.now ≡ false }
     ensures ok { IfOk result (λ reply. Answers who (Store (object_with refs.now «data».now)) reply (P.view port.old) (P.view port.new)) }
     ensures err { IfErr result (EndsEarly who (Store (object_with refs.now «data».now)) (P.view port.old) (P.view port.new)) }
     ensures reads { IfOk result (λ reply. ReadsAlone who (Store (object_with refs.now «data».now)) reply (P.view port.old) (P.view port.new)) }
@@ -111,14 +111,14 @@ fn store_known<P: CellPort>(
     alloc: Global,
     port: &mut P,
     who: Who,
-    up: &Frozen,
+    up: Option<&Frozen>,
     refs: &[Digest],
     digest: &Digest,
 ) -> Result<Reply, FaultInError>
-    requires upstream { (P.view port.old).upstream ≡ primary up.now.tables }
+    requires upstream { (P.view port.old).upstream ≡ upstream_state (option_copied up) }
     requires speaks { SpeaksFor (P.view port.old) who }
     requires few_refs { length refs.now ≤ 65535 }
-    requires known { has (primary up.now.tables) digest.now ≡ true }
+    requires known { has (upstream_state (option_copied up)) digest.now ≡ true }
     ensures ok { IfOk result (AnswersKnown who refs.now digest.now (P.view port.old) (P.view port.new)) }
     ensures err { IfErr result (KnownEndsEarly who refs.now digest.now (P.view port.old) (P.view port.new)) }
     ensures reads { IfOk result (ReadsKnown who refs.now digest.now (P.view port.old) (P.view port.new)) }
@@ -134,7 +134,7 @@ fn store_known<P: CellPort>(
     if holds(port, note, digest)? {
         return Ok(Reply::Stored(*digest));
     }
-    fault_in(alloc, port, who, up, digest)?;
+    bring_tree(alloc, port, who, up, digest)?;
     if !holds(port, note, digest)? {
         unreachable!();
     }
@@ -147,10 +147,10 @@ fn settle_refs<P: CellPort>(
     alloc: Global,
     port: &mut P,
     who: Who,
-    up: &Frozen,
+    up: Option<&Frozen>,
     refs: &[Digest],
 ) -> Result<Option<Reply>, FaultInError>
-    requires upstream { (P.view port.old).upstream ≡ primary up.now.tables }
+    requires upstream { (P.view port.old).upstream ≡ upstream_state (option_copied up) }
     requires speaks { SpeaksFor (P.view port.old) who }
     requires few_refs { length refs.now ≤ 65535 }
     ensures ok { IfOk result (SettlesRefs who refs.now (P.view port.old) (P.view port.new)) }
@@ -183,10 +183,10 @@ enum FoundRefs {
 fn find_refs<P: CellPort>(
     port: &mut P,
     who: Who,
-    up: &Frozen,
+    up: Option<&Frozen>,
     refs: &[Digest],
 ) -> Result<FoundRefs, AllocError>
-    requires upstream { (P.view port.old).upstream ≡ primary up.now.tables }
+    requires upstream { (P.view port.old).upstream ≡ upstream_state (option_copied up) }
     requires speaks { SpeaksFor (P.view port.old) who }
     requires few_refs { length refs.now ≤ 65535 }
     ensures ok { IfOk result (FindsRefs who refs.now (P.view port.old) (P.view port.new)) }
@@ -222,10 +222,10 @@ fn bring_refs<P: CellPort>(
     alloc: Global,
     port: &mut P,
     who: Who,
-    up: &Frozen,
+    up: Option<&Frozen>,
     refs: &[Digest],
 ) -> Result<(), FaultInError>
-    requires upstream { (P.view port.old).upstream ≡ primary up.now.tables }
+    requires upstream { (P.view port.old).upstream ≡ upstream_state (option_copied up) }
     requires speaks { SpeaksFor (P.view port.old) who }
     requires missed { missed (P.view port.old).start who is_shallow (P.view port.old).seen ≡ true }
     requires visible { AreVisible (P.view port.old).upstream (seen_state (P.view port.old)) refs.now }
@@ -234,7 +234,7 @@ fn bring_refs<P: CellPort>(
     ensures lawful { IsLawfulOrSame (P.view port.old) (P.view port.new) }
 {
     for digest in refs {
-        fault_in(alloc, port, who, up, digest)?;
+        bring_tree(alloc, port, who, up, digest)?;
     }
     Ok(())
 }

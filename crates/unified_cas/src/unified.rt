@@ -8,10 +8,9 @@ ghost use Rattle.unified_cas.specs.Answers.{Answers, Stops, LoadStops};
 ghost use Rattle.unified_cas.specs.Reading.{ReadsAlone};
 ghost use Rattle.unified_cas.specs.Upstream.{upstream_state};
 
-use crate::alone::{get_alone, load_alone, put_alone, store_alone};
-use crate::keeping::{get_over, put_over};
+use crate::keeping::{get_value, put_value};
 use crate::replies::answered;
-use crate::storing::{load_over, store_over};
+use crate::storing::{load_object, store_object};
 use cas_model::{Digest, Reply, Who};
 use cas_port::CellPort;
 use frozen_store::Frozen;
@@ -62,10 +61,7 @@ impl Unified<'_> {
         ensures reads { IfOk result (λ reply. ReadsAlone who (Store (object_with refs.now «data».now)) reply (P.view port.old) (P.view port.new)) }
         ensures lawful { IsLawful (P.view port.old) (P.view port.new) }
     {
-        match self.up {
-            None => store_alone(port, who, refs, data),
-            Some(up) => answered(store_over(alloc, port, who, up, refs, data)),
-        }
+        answered(store_object(alloc, port, who, self.up, refs, data))
     }
 
     /// Loads the object with this digest. The reply is `Found`, `Missing` or `Full`.
@@ -83,10 +79,7 @@ impl Unified<'_> {
         ensures reads { IfOk result (λ reply. ReadsAlone who (Load digest.now) reply (P.view port.old) (P.view port.new)) }
         ensures lawful { IsLawful (P.view port.old) (P.view port.new) }
     {
-        match self.up {
-            None => load_alone(alloc, port, who, digest),
-            Some(up) => answered(load_over(alloc, port, who, up, digest)),
-        }
+        answered(load_object(alloc, port, who, self.up, digest))
     }
 
     /// Gives a key a value, where it has none. The reply is `Kept` with the value that it then has, `Dangling` or `Full`.
@@ -105,10 +98,7 @@ impl Unified<'_> {
         ensures reads { IfOk result (λ reply. ReadsAlone who (Put key.now value.now) reply (P.view port.old) (P.view port.new)) }
         ensures lawful { IsLawful (P.view port.old) (P.view port.new) }
     {
-        match self.up {
-            None => put_alone(port, who, key, value),
-            Some(up) => answered(put_over(alloc, port, who, up, key, value)),
-        }
+        answered(put_value(alloc, port, who, self.up, key, value))
     }
 
     /// Gets the value of a key. The reply is `Hit`, `Miss` or `Full`.
@@ -126,9 +116,6 @@ impl Unified<'_> {
         ensures reads { IfOk result (λ reply. ReadsAlone who (Get key.now) reply (P.view port.old) (P.view port.new)) }
         ensures lawful { IsLawful (P.view port.old) (P.view port.new) }
     {
-        match self.up {
-            None => get_alone(port, who, key),
-            Some(up) => answered(get_over(alloc, port, who, up, key)),
-        }
+        answered(get_value(alloc, port, who, self.up, key))
     }
 }

@@ -16,4 +16,4 @@ returns-in_err-kept-clause-err g c =
     err-made _ _ _ c.from_residual-in_err-kept.ensures.1 (put-refused _ _ _ _ _ _ c.in_ok-place.ensures.ok c.in_ok-place.ensures.lawful _ _ c.requires.lacks c.in_err-kept.ensures.err)
 
 pub returns-clause-ok : goal.returns-clause-ok
-returns-clause-ok g c = put-kept _ _ _ _ _ _ c.in_ok-place.ensures.ok c.in_ok-place.ensures.lawful _ _ c.requires.lacks c.in_ok-kept.ensures.ok
+returns-clause-ok g c = put-kept _ _ _ _ _ _ c.in_ok-place.ensures.ok c.in_ok-place.ensures.lawful _ _ c.requires.lacks c.in_ok-kept.ensures.ok c.in_ok-kept.ensures.reads

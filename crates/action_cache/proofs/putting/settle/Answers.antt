@@ -7,3 +7,6 @@ record_digest-requires g c = kept-record _ _ _ (sound-run _ _ _ c.in_ok-cell.ens
 
 pub returns-clause-ok : goal.returns-clause-ok
 returns-clause-ok g c = settles _ _ _ _ _ _ _ _ c.in_ok-cell.ensures.ok c.in_ok-cell.ensures.lawful c.record_digest.ensures.digest c.record_digest.ensures.same
+
+pub returns-clause-reads : goal.returns-clause-reads
+returns-clause-reads g c = rw c.record_digest.ensures.same c.in_ok-cell.ensures.reads

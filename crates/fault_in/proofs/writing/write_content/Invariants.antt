@@ -1,8 +1,8 @@
 use Rattle.std.proofs.Common.{◌≡◌, ◌+◌, length}
 use Rattle.cas_model.specs.Content.{content_words}
 use Rattle.cas_port.specs.Calls.{IsLawful}
-use Rattle.graph_db.specs.Parts.{partly}
-use Rattle.fault_in.specs.Parts.{HasWords}
+use Rattle.graph_db.specs.Storing.{partly}
+use Rattle.fault_in.specs.Bringing.{HasWords}
 use Rattle.fault_in.proofs.writing.write_content.Given as goal
 
 -- the head word and the places of the first i references are written

@@ -1,6 +1,6 @@
 use Rattle.std.proofs.Common.{sym, ◌∙◌, subst}
 use Rattle.cas_outside.specs.Folder.{ReadsFile}
-use Rattle.generations.specs.Names.{generation_name}
+use Rattle.generations.specs.GenerationNames.{generation_name}
 use Rattle.generations.specs.Opened.{ReadFails}
 use Rattle.generations.proofs.OpeningLemmas.{has-image, refused-fails}
 use Rattle.generations.proofs.opening.read_generation.Goals as goal

@@ -1,7 +1,7 @@
 use Rattle.std.proofs.Common.{◌≡◌, take, drop}
 use Rattle.cas_model.specs.Content.{bytes_of}
 use Rattle.cas_port.specs.View.{tables}
-use Rattle.graph_db.specs.Parts.{content_at}
+use Rattle.graph_db.specs.Storing.{content_at}
 use Rattle.graph_db.proofs.loading.read_data.Given as goal
 
 -- the first words of the data were read

@@ -2,7 +2,7 @@ use Rattle.std.proofs.Common.{◌≡◌, take}
 use Rattle.cas_model.specs.Content.{content_places}
 use Rattle.cas_model.specs.Tables.{digests_at}
 use Rattle.cas_port.specs.View.{tables}
-use Rattle.graph_db.specs.Parts.{content_at}
+use Rattle.graph_db.specs.Storing.{content_at}
 use Rattle.graph_db.proofs.loading.read_refs.Given as goal
 
 -- the first references were read

@@ -1,4 +1,4 @@
-use Rattle.graph_db.specs.Parts.{FindsFirst}
+use Rattle.graph_db.specs.Storing.{FindsFirst}
 use Rattle.graph_db.proofs.storing.find_refs.Given as goal
 
 -- the references before the index were found

@@ -29,6 +29,6 @@ returns-in_err-bring-clause-err g c =
 pub returns-clause-ok : goal.returns-clause-ok
 returns-clause-ok g c = elim c.if-branch-eq0.branch [
   | then-branch-eq0+in_ok-bring w ↦ rw w.port-is
-      (stored-brought _ _ _ _ _ _ c.requires.digest c.in_ok-find_refs.ensures.ok _ (rw w.if-branch-eq0.true at c.in_ok-seek.ensures.ok) c.in_ok-seek.ensures.lawful _ w.in_ok-bring.ensures.ok)
+      (stored-brought _ _ _ _ _ _ c.requires.digest c.in_ok-find_refs.ensures.ok _ (rw w.if-branch-eq0.true at c.in_ok-seek.ensures.ok) c.in_ok-seek.ensures.lawful c.find_refs.ensures.lawful _ w.in_ok-bring.ensures.ok)
   | else-branch-eq0 w ↦ rw w.port-is (stored-found _ _ _ _ _ _ c.requires.digest c.in_ok-find_refs.ensures.ok _ _ w.if-branch-eq0.false c.in_ok-seek.ensures.ok)
 ]

@@ -3,7 +3,7 @@ use Rattle.cas_model.specs.Content.{content_words}
 use Rattle.cas_port.specs.Calls.{IsLawful}
 use Rattle.cas_port.specs.View.{tables}
 use Rattle.graph_db.specs.Stores.{object_with}
-use Rattle.graph_db.specs.Parts.{Writes, partly, places_in}
+use Rattle.graph_db.specs.Storing.{Writes, partly, places_in}
 use Rattle.graph_db.proofs.storing.write_content.Given as goal
 
 -- the head word and the places of the first i references are written

@@ -1,4 +1,4 @@
-use Rattle.region_check.specs.declared.row.Row.TheVariants.{Padding, Reference, Order}
+use Rattle.region_check.specs.declared.slot_flaws.Row.TheVariants.{Padding, Reference, Order}
 use Rattle.region_check.proofs.Celling.{contents_least}
 use Rattle.region_check.proofs.cells.leasts_in_contents.Goals as goal
 

@@ -1,5 +1,5 @@
 use Rattle.std.proofs.Common.{subst}
-use Rattle.region_check.specs.declared.row.Row.{Row}
+use Rattle.region_check.specs.declared.slot_flaws.Row.{Row}
 use Rattle.region_check.specs.Passes.{RowOf, HasNoneBefore}
 use Rattle.region_check.specs.Shown.{turn_of}
 use Rattle.region_check.proofs.Ending.{differing_fits, differing}

@@ -1,7 +1,7 @@
 use Rattle.std.proofs.Common.{List, length, subst}
 use Rattle.cas_model.specs.declared.place.Space.TheVariants.{Actions}
 use Rattle.region_check.specs.declared.reach.Table.{Table}
-use Rattle.region_check.specs.declared.row.Row.TheVariants as rows
+use Rattle.region_check.specs.declared.slot_flaws.Row.TheVariants as rows
 use Rattle.region_check.specs.Shown.{LeastWhere, TrieShown}
 use Rattle.region_check.proofs.Links.{value_least}
 use Rattle.region_check.proofs.least.least_value.Goals as goal

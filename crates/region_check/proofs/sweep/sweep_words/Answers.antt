@@ -1,6 +1,6 @@
 use Rattle.std.proofs.Common.{◌≡◌, ◌+◌, ℕ, length, sym, ap, subst, ◌∙◌, arith}
 use Rattle.std.specs.declared.option.Option.{Option}
-use Rattle.region_check.specs.declared.row.Row.TheVariants.{Length}
+use Rattle.region_check.specs.declared.slot_flaws.Row.TheVariants.{Length}
 use Rattle.region_check.specs.Flaws.{BySlot}
 use Rattle.region_check.specs.Shown.{LeastWhere, CellsShown, lower_of}
 use Rattle.region_check.specs.Sweep.{IsBefore, Swept}

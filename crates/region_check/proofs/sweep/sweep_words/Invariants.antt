@@ -1,4 +1,4 @@
-use Rattle.region_check.specs.declared.row.Row.TheVariants.{Length}
+use Rattle.region_check.specs.declared.slot_flaws.Row.TheVariants.{Length}
 use Rattle.region_check.specs.Passes.{HasNoneBefore}
 use Rattle.region_check.specs.Roles.{AreRoles}
 use Rattle.region_check.specs.Shown.{LeastWhere, CellsShown}

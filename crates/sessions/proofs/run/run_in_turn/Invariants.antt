@@ -1,5 +1,5 @@
 -- the sessions before the number ran
-use Rattle.graph_db.specs.Parts.{IsLawfulOrSame}
+use Rattle.graph_db.specs.Storing.{IsLawfulOrSame}
 use Rattle.sessions.proofs.Ordered.{HaveAddedInTurn}
 use Rattle.sessions.proofs.Turned.{HaveTurned}
 use Rattle.sessions.proofs.run.run_in_turn.Given as goal

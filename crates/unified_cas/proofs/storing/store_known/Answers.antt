@@ -31,56 +31,56 @@ returns-then-branch-clause-ok g c =
     let s = rw c.in_default.is at c.in_ok-reply.ensures.ok in
     λ bytes is. own-stored c.args.who c.args.refs.now c.args.digest.now bytes (g.P.CellPort.view c.args.port.now) _ _ is (s.brings.goes_on (g.P.CellPort.view c.args.port.now) bytes (under-self _ _ _)) s.found _ c.in_ok-holds.ensures.ok c.if-branch.true
 
-pub fault_in-requires-clause-speaks : goal.fault_in-requires-clause-speaks
-fault_in-requires-clause-speaks g c =
+pub bring_tree-requires-clause-speaks : goal.bring_tree-requires-clause-speaks
+bring_tree-requires-clause-speaks g c =
     let s = rw c.in_default.is at c.in_ok-reply.ensures.ok in
     sought-speaks c.args.who c.args.digest.now (g.P.CellPort.view c.args.port.now) _ _ s.brings.goes _ c.in_ok-holds.ensures.ok c.requires.speaks
 
-pub fault_in-requires-clause-upstream : goal.fault_in-requires-clause-upstream
-fault_in-requires-clause-upstream g c =
+pub bring_tree-requires-clause-upstream : goal.bring_tree-requires-clause-upstream
+bring_tree-requires-clause-upstream g c =
     let s = rw c.in_default.is at c.in_ok-reply.ensures.ok in
     sought-upstream c.args.who c.args.digest.now (g.P.CellPort.view c.args.port.now) _ _ s.brings.goes _ c.in_ok-holds.ensures.ok _ c.requires.upstream
 
-pub returns-in_err-fault_in-clause-err : goal.returns-in_err-fault_in-clause-err
-returns-in_err-fault_in-clause-err g c =
+pub returns-in_err-bring_tree-clause-err : goal.returns-in_err-bring_tree-clause-err
+returns-in_err-bring_tree-clause-err g c =
     let s = rw c.in_default.is at c.in_ok-reply.ensures.ok in
     let known = sought-known c.args.who c.args.digest.now (g.P.CellPort.view c.args.port.now) _ _ s.brings.goes _ c.in_ok-holds.ensures.ok _ c.requires.upstream c.requires.known in
-    err-made _ _ _ c.from_residual-in_err-fault_in.ensures.1
-    (λ bytes is. own-early c.args.who c.args.refs.now c.args.digest.now bytes (g.P.CellPort.view c.args.port.now) _ _ is (s.brings.goes_on (g.P.CellPort.view c.args.port.now) bytes (under-self _ _ _)) s.found _ c.if-branch.false c.in_ok-holds.ensures.ok c.in_ok-holds.ensures.lawful _ _ known s.brings.there c.fault_in.ensures.lawful
-    c.in_err-fault_in.ensures.err)
+    err-made _ _ _ c.from_residual-in_err-bring_tree.ensures.1
+    (λ bytes is. own-early c.args.who c.args.refs.now c.args.digest.now bytes (g.P.CellPort.view c.args.port.now) _ _ is (s.brings.goes_on (g.P.CellPort.view c.args.port.now) bytes (under-self _ _ _)) s.found _ c.if-branch.false c.in_ok-holds.ensures.ok c.in_ok-holds.ensures.lawful _ _ known s.brings.there c.bring_tree.ensures.lawful
+    c.in_err-bring_tree.ensures.err)
 
 pub holds-requires-2 : goal.holds-requires-2
 holds-requires-2 g c =
     let s = rw c.in_default.is at c.in_ok-reply.ensures.ok in
     brought-speaks c.args.who c.args.digest.now (g.P.CellPort.view c.args.port.now) _ _ s.brings.goes _ c.in_ok-holds.ensures.ok _
-    (whole-now _ _ _ _ _ (told-brought _ _ _ c.fault_in.ensures.lacks c.in_ok-fault_in.was c.requires.known) c.in_ok-fault_in.ensures.ok) c.requires.speaks
+    (whole-now _ _ _ _ _ (told-brought _ _ _ c.bring_tree.ensures.lacks c.in_ok-bring_tree.was c.requires.known) c.in_ok-bring_tree.ensures.ok) c.requires.speaks
 
 pub returns-in_err-holds-2-clause-err : goal.returns-in_err-holds-2-clause-err
 returns-in_err-holds-2-clause-err g c =
     let s = rw c.in_default.is at c.in_ok-reply.ensures.ok in
-    let whole = (whole-now _ _ _ _ _ (told-brought _ _ _ c.fault_in.ensures.lacks c.in_ok-fault_in.was c.requires.known) c.in_ok-fault_in.ensures.ok) in
+    let whole = (whole-now _ _ _ _ _ (told-brought _ _ _ c.bring_tree.ensures.lacks c.in_ok-bring_tree.was c.requires.known) c.in_ok-bring_tree.ensures.ok) in
     err-made _ Memory _ c.from_residual-in_err-holds-2.ensures.1
     (λ bytes is.
     own-stops c.args.who c.args.refs.now c.args.digest.now bytes (g.P.CellPort.view c.args.port.now) _ _ is
     (own-brought c.args.who c.args.refs.now c.args.digest.now bytes (g.P.CellPort.view c.args.port.now) _ _ is (s.brings.goes_on (g.P.CellPort.view c.args.port.now) bytes (under-self _ _ _)) s.found _ c.if-branch.false c.in_ok-holds.ensures.ok c.in_ok-holds.ensures.lawful _
-    c.fault_in.ensures.lawful whole)
+    c.bring_tree.ensures.lawful whole)
     (own-there c.args.who c.args.refs.now c.args.digest.now bytes (g.P.CellPort.view c.args.port.now) _ _ is (s.brings.goes_on (g.P.CellPort.view c.args.port.now) bytes (under-self _ _ _)) s.found _ c.if-branch.false c.in_ok-holds.ensures.ok c.in_ok-holds.ensures.lawful _
     whole) c.in_err-holds-2.ensures.err)
 
 pub unreachable-requires : goal.unreachable-requires
 unreachable-requires g c =
     not-both _
-    (found-whole _ _ _ _ _ _ (whole-now _ _ _ _ _ (told-brought _ _ _ c.fault_in.ensures.lacks c.in_ok-fault_in.was c.requires.known) c.in_ok-fault_in.ensures.ok)
+    (found-whole _ _ _ _ _ _ (whole-now _ _ _ _ _ (told-brought _ _ _ c.bring_tree.ensures.lacks c.in_ok-bring_tree.was c.requires.known) c.in_ok-bring_tree.ensures.ok)
     c.in_ok-holds-2.ensures.lawful c.in_ok-holds-2.ensures.ok) c.if-not-branch.true
 
 pub returns-clause-ok : goal.returns-clause-ok
 returns-clause-ok g c =
     let s = rw c.in_default.is at c.in_ok-reply.ensures.ok in
-    let whole = (whole-now _ _ _ _ _ (told-brought _ _ _ c.fault_in.ensures.lacks c.in_ok-fault_in.was c.requires.known) c.in_ok-fault_in.ensures.ok) in
+    let whole = (whole-now _ _ _ _ _ (told-brought _ _ _ c.bring_tree.ensures.lacks c.in_ok-bring_tree.was c.requires.known) c.in_ok-bring_tree.ensures.ok) in
     λ bytes is.
     own-stored c.args.who c.args.refs.now c.args.digest.now bytes (g.P.CellPort.view c.args.port.now) _ _ is
     (own-brought c.args.who c.args.refs.now c.args.digest.now bytes (g.P.CellPort.view c.args.port.now) _ _ is (s.brings.goes_on (g.P.CellPort.view c.args.port.now) bytes (under-self _ _ _)) s.found _ c.if-branch.false c.in_ok-holds.ensures.ok c.in_ok-holds.ensures.lawful _
-    c.fault_in.ensures.lawful whole)
+    c.bring_tree.ensures.lawful whole)
     (own-there c.args.who c.args.refs.now c.args.digest.now bytes (g.P.CellPort.view c.args.port.now) _ _ is (s.brings.goes_on (g.P.CellPort.view c.args.port.now) bytes (under-self _ _ _)) s.found _ c.if-branch.false c.in_ok-holds.ensures.ok c.in_ok-holds.ensures.lawful _
     whole) _ c.in_ok-holds-2.ensures.ok c.if-not-branch.false
 
