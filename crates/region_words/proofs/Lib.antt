@@ -1,0 +1,13 @@
+pub mod Beginning
+pub mod Calling
+pub mod Counting
+pub mod Ending
+pub mod Holding
+pub mod Keeping
+pub mod Labelling
+pub mod Lists
+pub mod Meeting
+pub mod Moving
+pub mod Seating
+pub mod Storing
+pub mod Viewing
