@@ -1,9 +1,9 @@
 // Batches and workloads over a folder in memory.
 ghost use Rattle.std.specs.Prelude.{◌≡◌, None};
 
-use run_fixtures::{folder_failing, fresh_folder, run_in, tells, writes};
 use cas_model::{Digest, Id};
 use cas_outside::MemFolder;
+use run_fixtures::{folder_failing, fresh_folder, run_in, tells, writes};
 use std::alloc::{AllocError, Global};
 use std::test::Fail;
 use test_fixtures::hashed;

@@ -1,5 +1,4 @@
 // Runs over sources and sinks in memory: the worked answers, with ids that another implementation of SHA-256 computed.
-use run_fixtures::{EMPTY, End, HELLO, Ran, ZERO, fresh_folder, nothing, owned, run_words};
 use cas_command::{Answer, Large, answer_text};
 use cas_model::{Digest, Full, Id, IdError};
 use cas_outside::{MemSink, MemSource};
@@ -7,6 +6,7 @@ use cas_script::LineKind;
 use command_line::UsageKind;
 use image_file::ImageError;
 use region_check::{Flaw, FlawKind};
+use run_fixtures::{EMPTY, End, HELLO, Ran, ZERO, fresh_folder, nothing, owned, run_words};
 use std::alloc::Global;
 use std::test::Fail;
 use test_fixtures::{ABSENT, hashed, hashed_key};

@@ -1,10 +1,10 @@
 // The largest blob, a store that is full, and a script with lines that do not fit.
 ghost use Rattle.std.specs.Prelude.{◌≡◌, None};
 
-use run_fixtures::{End, end_in, folder_failing, fresh_folder, nothing, run_over, tells, writes};
 use cas_command::{Answer, Large};
 use cas_model::Full;
 use cas_outside::{MemFolder, MemSink, MemSource};
+use run_fixtures::{End, end_in, folder_failing, fresh_folder, nothing, run_over, tells, writes};
 use std::alloc::Global;
 use std::test::Fail;
 

@@ -1,10 +1,10 @@
 // A store that goes on in new generations, over a folder in memory.
 ghost use Rattle.std.specs.Prelude.{◌≡◌, None, IfOk};
 
-use run_fixtures::{HELLO, end_in, folder_failing, fresh_folder, nothing, run_in, tells, writes};
 use cas_command::Answer;
 use cas_outside::MemFolder;
 use image_file::ImageError;
+use run_fixtures::{HELLO, end_in, folder_failing, fresh_folder, nothing, run_in, tells, writes};
 use std::alloc::{AllocError, Global};
 use std::test::Fail;
 

@@ -1,14 +1,14 @@
 // A store that lasts: commands over one folder in memory, with ids that another implementation of SHA-256 computed.
 ghost use Rattle.std.specs.Prelude.{◌≡◌, None, IfOk};
 
-use run_fixtures::{
-    EMPTY, End, HELLO, ZERO, end_in, folder_failing, fresh_folder, nothing, run_failing, run_in,
-    tells, writes,
-};
 use cas_command::Answer;
 use cas_model::{Digest, Id};
 use cas_outside::MemFolder;
 use image_file::ImageError;
+use run_fixtures::{
+    EMPTY, End, HELLO, ZERO, end_in, folder_failing, fresh_folder, nothing, run_failing, run_in,
+    tells, writes,
+};
 use std::alloc::Global;
 use std::test::Fail;
 use test_fixtures::{ABSENT, hashed, hashed_key};
